@@ -1,6 +1,6 @@
 -- What the proofs of this crate cite of definitions, of other crates and of the libraries, passed on from one place.
 pub use Rattle.std.proofs.Common.{Bool, Bor, Contains, IfNone, IfSome, IsTrue, List, None, Option, Some, [], ap, arith, below_more, false, flat_map, get_or, get_or-set_other, get_or-set_same, inl, inr, length, map, option_and_then, option_map, pos, refl, rules, slice_get, slice_set, subst, suc, sym, take, true, zero, ℕ, ◌&&◌, ◌++◌, ◌+◌, ◌-◌, ◌<◌, ◌↔◌, ◌∙◌, ◌∷◌, ◌≡◌, ◌≢◌, ◌≤◌, ◌⊎◌}
-pub use Rattle.bindings.specs.Checks.{IsOneUse, IsRootOperation, MatchesAt}
+pub use Rattle.bindings.specs.Checks.{IsMet, IsRootOperation, MatchesAt}
 pub use Rattle.bindings.specs.Facts.{AreFactsOf}
 pub use Rattle.bindings.specs.Laws.{ReadsStandBefore, TemporariesStandBefore}
 pub use Rattle.bindings.specs.Match.{IsMatch, MatchesInAnyOrder, MatchesWhere}
@@ -33,6 +33,7 @@ pub use Rattle.ops.specs.declared.value.Value.TheVariants.{Bits}
 pub use Rattle.rule_core.proofs.Members.{Contains-flat_map, Contains-from_get, flat_map-from, operand_stands, source_statement}
 pub use Rattle.rule_core.proofs.Weights.{few_terms}
 pub use Rattle.rule_core.specs.Checks.{IsRule, MayBeTerm, SourceMayRead}
+pub use Rattle.rule_core.specs.Facts.{SaysBits}
 pub use Rattle.rule_core.specs.Positions.{name, operands_among, operands_in, operands_of, reads_constant}
 pub use Rattle.rule_core.specs.TermNodes.{IsOperandOf, StandsIn, itself, operand}
 pub use Rattle.rule_core.specs.Typing.{IsTyping}

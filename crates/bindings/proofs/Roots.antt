@@ -55,4 +55,5 @@ in_any_order f b k rule m is = record {
   typing = is.typing;
   precondition = is.precondition;
   one_use = is.one_use;
+  no_facts = is.no_facts;
 }

@@ -76,6 +76,7 @@ module _ (stands_before : ReadsStandBefore) (f : Function) (b k : ℕ) (rule : R
     typing = is.typing;
     precondition = is.precondition;
     one_use = is.one_use;
+    no_facts = is.no_facts;
   }
 
 pub temporaries_before : ReadsStandBefore → TemporariesStandBefore

@@ -22,10 +22,13 @@ use Rattle.bindings.specs.declared.facts.FunctionFacts.{FunctionFacts}
 abbrev pub MatchesAt : Function → Binding → Op → ℕ → ℕ → ℕ → Type 0
 MatchesAt f binding op b p i = (o : Operand) (r : Read) → slice_get (operands_of op) i ≡ Some o → IsRead f b p i r → OperandMatches binding o r
 
--- the register of which a formula asks for one use, if it does, is counted once
-abbrev pub IsOneUse : FunctionFacts → Binding → Formula → Type 0
-IsOneUse facts binding (formulas.HasOneUse j) = (r : Register) → slice_get binding.statements j ≡ Some r → count_of facts.uses r ≡ 1
-IsOneUse facts binding formula = Unit {0}
+-- What a formula asks of the function is met: the register that it asks one use of, if it does, has one by the counts,
+-- and it says nothing of bits.
+abbrev pub IsMet : FunctionFacts → Binding → Formula → Type 0
+IsMet facts binding (formulas.HasOneUse j) = (r : Register) → slice_get binding.statements j ≡ Some r → count_of facts.uses r ≡ 1
+IsMet facts binding (formulas.MaskedValueIsZero r a) = ⊥
+IsMet facts binding (formulas.IsKnownNonZero r) = ⊥
+IsMet facts binding formula = Unit {0}
 
 -- instruction k of block b is the same operation as the root of the source
 pub record IsRootOperation (f : Function) (b k : ℕ) (rule : Rule) : Type 0 where

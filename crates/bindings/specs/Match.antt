@@ -5,8 +5,10 @@ use Rattle.ir_core.specs.declared.function.Function.{Function}
 use Rattle.ir_core.specs.declared.operand.Operand.TheVariants as operands
 use Rattle.ir_core.specs.declared.operand.Register.{Register}
 use Rattle.ir_core.specs.declared.operand.Register.TheVariants as registers
+use Rattle.rule_core.specs.Facts.{SaysBits}
 use Rattle.rule_core.specs.Terms.{PreconditionHolds}
 use Rattle.rule_core.specs.Typing.{IsTyping}
+use Rattle.rule_core.specs.declared.rule.Formula.{Formula}
 use Rattle.rule_core.specs.declared.rule.Formula.TheVariants as formulas
 use Rattle.rule_core.specs.declared.rule.Rule.{Rule}
 use Rattle.rule_core.specs.declared.rule.Statement.{Statement}
@@ -35,6 +37,8 @@ pub record MatchesWhere (Before : ℕ → ℕ → Type 0) (f : Function) (b k : 
   pub precondition : PreconditionHolds rule binding.typing binding.constants
   -- each register of which one use is asked is named by exactly one operand of the function
   pub one_use : (j : ℕ) (r : Register) → Contains rule.precondition (formulas.HasOneUse j) → slice_get binding.statements j ≡ Some r → IsUsedOnce f r
+  -- nothing is known of bits, so no precondition that says something of them is met
+  pub no_facts : (formula : Formula) → Contains rule.precondition formula → ¬ SaysBits formula
 
 -- where temporaries stand before the root: the instructions of a block are in the order of their index
 abbrev pub IsMatch : Function → ℕ → ℕ → Rule → Binding → Type 0

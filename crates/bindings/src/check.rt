@@ -5,8 +5,10 @@ ghost use Rattle.rule_core.specs.Checks.{IsRule};
 ghost use Rattle.rule_core.specs.declared.rule.Formula.{Formula as Asked};
 ghost use Rattle.rule_core.specs.declared.rule.Statement.{Statement as SourceStatement};
 ghost use Rattle.rule_typing.specs.Classes.{IsClassified};
-ghost use Rattle.bindings.specs.Checks.{IsOneUse, MatchesAt};
+ghost use Rattle.bindings.specs.Checks.{IsMet, MatchesAt};
 ghost use Rattle.bindings.specs.Facts.{AreFactsOf};
+ghost use Rattle.ir_core.specs.declared.operand.Register.{Register};
+ghost use Rattle.use_counts.specs.Tables.{count_of};
 ghost use Rattle.bindings.specs.Match.{MatchesInAnyOrder};
 ghost use Rattle.bindings.specs.Promises.{AreKept};
 ghost use Rattle.bindings.specs.Statements.{InstMatches, StatementMatches, TargetNamesTemporary, promises_of_inst, promises_of_statement};
@@ -44,7 +46,7 @@ pub fn is_match(f: &Function, facts: &FunctionFacts, rule: &Rule, binding: &Bind
     if !is_typing(rule, &binding.typing) || !holds(rule, &binding.typing, &binding.constants) {
         return false;
     }
-    have_one_use(facts, binding, rule.precondition.as_slice())
+    are_met(facts, binding, rule.precondition.as_slice())
 }
 
 /// Whether the binding has an entry for each statement, each input and each constant of the rule.
@@ -198,25 +200,34 @@ fn has_undef(operands: &[Operand]) -> bool
     operands.contains(&Operand::Undef)
 }
 
-/// Whether each register of which these formulas ask for one use has exactly one.
-fn have_one_use(facts: &FunctionFacts, binding: &Binding, formulas: &[Formula]) -> bool
-    ensures { IsTrue result ↔ ((formula : Asked) → Contains formulas.now formula → IsOneUse facts.now binding.now formula) }
+/// Whether what these formulas ask of the function is met.
+fn are_met(facts: &FunctionFacts, binding: &Binding, formulas: &[Formula]) -> bool
+    ensures { IsTrue result ↔ ((formula : Asked) → Contains formulas.now formula → IsMet facts.now binding.now formula) }
 {
     for formula in formulas {
-        if !has_one_use(facts, binding, *formula) {
+        if !is_met(facts, binding, *formula) {
             return false;
         }
     }
     true
 }
 
-/// Whether the register of which a formula asks for one use, if it does, has exactly one.
-fn has_one_use(facts: &FunctionFacts, binding: &Binding, formula: Formula) -> bool
-    ensures { IsTrue result ↔ IsOneUse facts.now binding.now formula }
+/// Whether the register that a formula asks one use of, if it does, has one. Of bits nothing is known.
+fn is_met(facts: &FunctionFacts, binding: &Binding, formula: Formula) -> bool
+    ensures { IsTrue result ↔ IsMet facts.now binding.now formula }
 {
-    let Formula::HasOneUse(j) = formula else {
-        return true;
-    };
+    match formula {
+        Formula::HasOneUse(j) => has_one_use(facts, binding, j),
+        Formula::MaskedValueIsZero(_, _) | Formula::IsKnownNonZero(_) => false,
+        Formula::Compare(_, _, _) | Formula::IsPowerOfTwo(_) | Formula::IsSignBit(_) => true,
+        Formula::Not(_) | Formula::And(_, _) | Formula::Or(_, _) => true,
+    }
+}
+
+/// Whether the register that a source statement assigns has one use.
+fn has_one_use(facts: &FunctionFacts, binding: &Binding, j: u32) -> bool
+    ensures { IsTrue result ↔ ((r : Register) → slice_get binding.now.statements j ≡ Some r → count_of facts.now.uses r ≡ 1) }
+{
     match binding.statements.as_slice().get(j as usize) {
         Some(register) => uses_of(&facts.uses, *register) == 1,
         None => true,

@@ -9,7 +9,7 @@ use Rattle.blast_value.specs.declared.held.Held.{Held}
 use Rattle.blast_rule.proofs.Ready.{width_at, get_taken}
 
 -- at a place within a list something stands
-found : {X : Type 0} (xs : List X) (i : ℕ) → i < length xs → (x : X) × (slice_get xs i ≡ Some x)
+pub found : {X : Type 0} (xs : List X) (i : ℕ) → i < length xs → (x : X) × (slice_get xs i ≡ Some x)
 found [] i within = absurd (omega arith)
 found (x ∷ xs) zero within = (x, refl)
 found (x ∷ xs) (suc i) within = found xs i (omega arith)

@@ -1,26 +1,26 @@
 -- What the proofs of this crate cite of definitions, of other crates and of the libraries, passed on from one place.
 pub use Rattle.std.proofs.Common.{Bool, Contains, Err, IfOk, IsSome, IsTrue, List, None, Ok, OnOk, Option, Result, SFits, Some, [], ap, arith, drop, eq-eqb, false, flat_map, get_or, get_or-take, if◌then◌else◌, length, length-append, map, max, not, pos, refl, rules, slice_get, slice_index, subst, suc, sum_by, sym, take, true, zero, ℕ, ℤ, ◌&&◌, ◌*◌, ◌++◌, ◌+◌, ◌-◌, ◌<◌, ◌==◌, ◌^◌, ◌||◌, ◌↔◌, ◌∙◌, ◌∷◌, ◌≡◌, ◌≤◌}
-pub use Rattle.blast_rule.specs.Gates.{given_gates, greatest_width, halves_gates, most_gates, op_bound, op_gates, refusal_gates, root_gates, root_width, rule_bound, run_gates, statement_bound, statement_gates, widths_of_terms, widths_of_witness, witness_gates}
+pub use Rattle.blast_rule.specs.Gates.{given_gates, greatest_width, halves_gates, most_gates, op_bound, op_gates, refusal_gates, root_gates, root_width, rule_bound, run_gates, said_gates, statement_bound, statement_gates, widths_of_terms, widths_of_witness, witness_gates}
 pub use Rattle.blast_rule.specs.Laws.{GatesAreBelow, GatesAreFew}
 pub use Rattle.blast_rule.specs.Parts.{Refutes}
 pub use Rattle.blast_rule.specs.Runs.{AreTerms, HoldsOperand, IsGiven, TemporariesRan, ending, given_shape, instruction_of, setting_seen, shape, shapes, word_shape}
 pub use Rattle.blast_setting.proofs.Few.{few_choices}
 pub use Rattle.blast_setting.proofs.Made.{setting-kept, setting_own-kept}
 pub use Rattle.blast_setting.proofs.Settings.{IsNumberOf, constants_fit, fitting_are_read, inputs_fit, read_fits, target_choices_fit}
-pub use Rattle.blast_setting.proofs.Widths.{are_named, length-named_widths, named_width-is, named_widths-at}
+pub use Rattle.blast_setting.proofs.Widths.{are_named, length-named_widths, named_width-is, named_widths-at, naming}
 pub use Rattle.blast_setting.proofs.Written.{FitAll}
 pub use Rattle.blast_setting.specs.Inputs.{choice_widths, constant_widths, input_widths, named_width}
 pub use Rattle.blast_setting.specs.SettingBits.{setting_held}
 pub use Rattle.blast_setting.specs.Settings.{setting_of}
-pub use Rattle.blast_setting.specs.declared.named.Kind.TheVariants.{Constant}
+pub use Rattle.blast_setting.specs.declared.named.Kind.TheVariants.{Constant, Input}
 pub use Rattle.blast_term.proofs.Counts.{node-low, terms-few}
 pub use Rattle.blast_term.proofs.Kept.{scope_own-kept, seen-kept}
 pub use Rattle.blast_term.proofs.Nodes.{register_own}
 pub use Rattle.blast_term.proofs.Preconditions.{nothing_held, precondition_holds}
 pub use Rattle.blast_term.proofs.Turns.{own_from_get}
-pub use Rattle.blast_term.specs.Gates.{choice_bound, choices_gates, formula_bound, formula_gates, formulas_gates, numbers_gates, term_bound, terms_gates}
+pub use Rattle.blast_term.specs.Gates.{choice_bound, choices_gates, fact_gates, formula_bound, formula_gates, formulas_gates, numbers_gates, term_bound, terms_gates}
 pub use Rattle.blast_term.specs.Scope.{ScopeIsOwn, held_at, holds, seen}
-pub use Rattle.blast_term.specs.Terms.{FormulaIsHeld, FormulasAreHeld, HasWord, MeansNames, NodeIsHeld, ReadsTerms, TermsAreHeld, number_chosen, numbers_chosen, term_widths}
+pub use Rattle.blast_term.specs.Terms.{FactIsHeld, FactsAreHeld, FormulaIsHeld, FormulasAreHeld, HasWord, MeansNames, NodeIsHeld, ReadsTerms, TermsAreHeld, number_chosen, numbers_chosen, term_widths}
 pub use Rattle.blast_term.specs.declared.scope.Scope.{Scope}
 pub use Rattle.blast_value.proofs.Counts.{count-few, shift-few}
 pub use Rattle.blast_value.proofs.Kept.{AllAll-kept, AllOwn-kept, IsOwnEffect-kept, effect_of-kept, held_value-kept, numbers_held-kept, numbers_of-kept, values-kept}
@@ -53,9 +53,10 @@ pub use Rattle.rule_core.proofs.Ready.{ValuesFit-none, ValuesFit-push, class_wid
 pub use Rattle.rule_core.proofs.Unchosen.{follows-stops, temporaries_same}
 pub use Rattle.rule_core.proofs.Weights.{few_formulas, few_terms}
 pub use Rattle.rule_core.proofs.Witnesses.{choices_fit}
-pub use Rattle.rule_core.specs.Checks.{IsRule, MayBeFormula, MayBeTerm, MayBeWitness}
+pub use Rattle.rule_core.specs.Checks.{IsBeforeRoot, IsRule, MayBeFormula, MayBeTerm, MayBeWitness}
+pub use Rattle.rule_core.specs.Facts.{KeepsFacts, facts_hold}
 pub use Rattle.rule_core.specs.Laws.{RulesHaveOneOutcome}
-pub use Rattle.rule_core.specs.Positions.{IsStatementOf, IsTermOf, Line, TermLine, assigns_root, classes_of_statement, classes_of_term, compared_terms, left, name, operands_of, right, source_assigns, term, term_choice, term_constant, term_register, terms_in, unary}
+pub use Rattle.rule_core.specs.Positions.{IsStatementOf, IsTermOf, Line, Names, TermLine, assigns_root, classes_of_statement, classes_of_term, compared_terms, left, masked, name, operands_of, right, source_assigns, term, term_choice, term_constant, term_register, terms_in, unary}
 pub use Rattle.rule_core.specs.Readiness.{ChoiceIsReady, GivenFits, OpIsReady, OperandIsReady, StatementIsReady, TermsFit, ValuesFit}
 pub use Rattle.rule_core.specs.Run.{ArgumentGives, Ending, Follows, Given, GivesLast, GoesOn, Holds, Leads, OpGives, OperandGives, SourceGives, StatementGives, TargetGives, TargetGoesOn, TemporariesEnd, Undefines, at_start, frozen, given_by, holding_source, holding_target, temporaries_of, value_of}
 pub use Rattle.rule_core.specs.Terms.{Meanings, PreconditionHolds, constant_values, number_or_zero, of_constants, value_at}

@@ -1,5 +1,5 @@
 -- Bounds on how many gates there are.
-use Rattle.blast_rule.proofs.Common.{◌≡◌, ℕ, zero, suc, ◌+◌, ◌-◌, ◌*◌, ◌^◌, ◌<◌, ◌≤◌, max, List, [], ◌∷◌, ◌++◌, length, map, Some, refl, sym, ap, subst, ◌∙◌, arith, get_or, slice_get, slice_index, sum_by, flat_map, Contains, option_map, All, fold, select_gates, mul-le-mul_left, mul-le-mul, All-nil, All-cons, All-head, All-tail, All-map, All-weaker, All-contains_itself, Contains-append_left, sum_by-cons, sum_by-le, slice_get-get_or, slice_get_within, slice_get-map, get_or_from_slice_get, same_Some, Add, Sub, Mul, UDiv, SDiv, URem, SRem, Shl, LShr, AShr, And, Or, Xor, UMin, UMax, SMin, SMax, Abs, CtPop, CtLz, CtTz, Trunc, ZExt, SExt, Rule, Statement, Operand, Op, Binary, Compare, Unary, Select, Convert, Freeze, Copy, IsTyping, IsRule, MayBeFormula, Term, Not, Formula, operands_of, terms_in, classes_of_statement, classes_of_term, IsStatementOf, IsTermOf, Contains-from_get, Contains-flat_map, source_statement, target_statement, term_class_stands, constant_term, witness_term, few_terms, few_formulas, shift-few, count-few, op_gates, statement_gates, widths_of_terms, widths_of_witness, refusal_gates, root_width, most_gates, greatest_width, op_bound, statement_bound, rule_bound, formula_gates, term_bound, formula_bound, choice_bound, ReadsTerms, GatesAreFew, GatesAreBelow, few_choices, node-low, terms-few}
+use Rattle.blast_rule.proofs.Common.{◌≡◌, ℕ, zero, suc, ◌+◌, ◌-◌, ◌*◌, ◌^◌, ◌<◌, ◌≤◌, max, List, [], ◌∷◌, ◌++◌, length, map, Some, refl, sym, ap, subst, ◌∙◌, arith, get_or, slice_get, slice_index, sum_by, flat_map, Contains, option_map, All, fold, select_gates, mul-le-mul_left, mul-le-mul, All-nil, All-cons, All-head, All-tail, All-map, All-weaker, All-contains_itself, Contains-append_left, sum_by-cons, sum_by-le, slice_get-get_or, slice_get_within, slice_get-map, get_or_from_slice_get, same_Some, Add, Sub, Mul, UDiv, SDiv, URem, SRem, Shl, LShr, AShr, And, Or, Xor, UMin, UMax, SMin, SMax, Abs, CtPop, CtLz, CtTz, Trunc, ZExt, SExt, Rule, Statement, Operand, Op, Binary, Compare, Unary, Select, Convert, Freeze, Copy, IsTyping, IsRule, MayBeFormula, Term, Not, Formula, operands_of, terms_in, classes_of_statement, classes_of_term, IsStatementOf, IsTermOf, Contains-from_get, Contains-flat_map, source_statement, target_statement, term_class_stands, constant_term, witness_term, few_terms, few_formulas, shift-few, count-few, op_gates, statement_gates, widths_of_terms, widths_of_witness, refusal_gates, root_width, most_gates, greatest_width, op_bound, statement_bound, rule_bound, formula_gates, fact_gates, term_bound, formula_bound, choice_bound, ReadsTerms, GatesAreFew, GatesAreBelow, few_choices, node-low, terms-few}
 use Rattle.rule_core.specs.declared.rule.Node.TheVariants as nodes
 use Rattle.rule_core.specs.declared.rule.Formula.TheVariants as formulas_of
 
@@ -78,6 +78,11 @@ fold-least a m (y ∷ xs) low all = fold-least (max a y) m xs (omega (arith, All
 sum-le : {X : Type 0} (f g : X → ℕ) (xs : List X) → All (λ x. f x ≤ g x) xs → sum_by f xs ≤ sum_by g xs
 sum-le f g [] le = omega arith
 sum-le f g (x ∷ xs) le = omega (arith, sum_by-cons f x xs, sum_by-cons g x xs, le 0 x (omega arith), sum-le f g xs (All-tail (λ y. f y ≤ g y) x xs le))
+
+-- and of two sums at once
+sums-le : {X : Type 0} (f h g : X → ℕ) (xs : List X) → All (λ x. f x + h x ≤ g x) xs → sum_by f xs + sum_by h xs ≤ sum_by g xs
+sums-le f h g [] le = omega arith
+sums-le f h g (x ∷ xs) le = omega (arith, sum_by-cons f x xs, sum_by-cons h x xs, sum_by-cons g x xs, le 0 x (omega arith), sums-le f h g xs (All-tail (λ y. f y + h y ≤ g y) x xs le))
 
 sum-room : {X : Type 0} (f g : X → ℕ) (k : ℕ) (xs : List X) (i : ℕ) (x : X) → All (λ x. f x ≤ g x) xs → slice_get xs i ≡ Some x → f x + k ≤ g x → sum_by f xs + k ≤ sum_by g xs
 sum-room f g k [] i x le at room = absurd (omega (arith, slice_get_within [] i x at))
@@ -168,6 +173,8 @@ module _ (rule : Rule) (typing : List ℕ) (checked : IsRule rule) (typed : IsTy
   reads_terms n (formulas_of.IsPowerOfTwo a) may = may
   reads_terms n (formulas_of.IsSignBit a) may = may
   reads_terms n (formulas_of.HasOneUse j) may = tt
+  reads_terms n (formulas_of.MaskedValueIsZero r a) may = may.1
+  reads_terms n (formulas_of.IsKnownNonZero r) may = tt
   reads_terms n (formulas_of.Not a) may = tt
   reads_terms n (formulas_of.And a b) may = tt
   reads_terms n (formulas_of.Or a b) may = tt
@@ -188,11 +195,13 @@ module _ (rule : Rule) (typing : List ℕ) (checked : IsRule rule) (typed : IsTy
       let width = term_width t (constant_term rule a t at) in
       (omega (arith, width.0, told), omega (arith, width.1, told))
 
-  formula_few : (n : ℕ) (f : Formula) → MayBeFormula rule n f → formula_gates (widths_of_terms rule typing) f ≤ formula_bound (widths_of_terms rule typing) f
+  formula_few : (n : ℕ) (f : Formula) → MayBeFormula rule n f → formula_gates (widths_of_terms rule typing) f + fact_gates (widths_of_terms rule typing) f ≤ formula_bound (widths_of_terms rule typing) f
   formula_few n (formulas_of.Compare pred a b) may = let w = width_there a may.0 in omega (arith, w.0)
   formula_few n (formulas_of.IsPowerOfTwo a) may = let w = width_there a may in omega (arith, w.0)
   formula_few n (formulas_of.IsSignBit a) may = let w = width_there a may in omega (arith, w.0)
   formula_few n (formulas_of.HasOneUse j) may = omega arith
+  formula_few n (formulas_of.MaskedValueIsZero r a) may = let w = width_there a may.1 in omega (arith, w.0)
+  formula_few n (formulas_of.IsKnownNonZero r) may = omega arith
   formula_few n (formulas_of.Not a) may = omega arith
   formula_few n (formulas_of.And a b) may = omega arith
   formula_few n (formulas_of.Or a b) may = omega arith
@@ -202,6 +211,8 @@ module _ (rule : Rule) (typing : List ℕ) (checked : IsRule rule) (typed : IsTy
   formula_low n (formulas_of.IsPowerOfTwo a) may = let w = width_there a may in omega (arith, w.1)
   formula_low n (formulas_of.IsSignBit a) may = let w = width_there a may in omega (arith, w.1)
   formula_low n (formulas_of.HasOneUse j) may = omega arith
+  formula_low n (formulas_of.MaskedValueIsZero r a) may = let w = width_there a may.1 in omega (arith, w.1)
+  formula_low n (formulas_of.IsKnownNonZero r) may = omega arith
   formula_low n (formulas_of.Not a) may = omega arith
   formula_low n (formulas_of.And a b) may = omega arith
   formula_low n (formulas_of.Or a b) may = omega arith
@@ -216,7 +227,8 @@ module _ (rule : Rule) (typing : List ℕ) (checked : IsRule rule) (typed : IsTy
       let target = sum-le (statement_gates typing) (statement_bound typing) rule.target (in_target (λ s. statement_gates typing s ≤ statement_bound typing s) statement-few) in
       let terms = terms-few typing rule.terms (constant_terms (λ t. (1 ≤ slice_index typing t.class) × (slice_index typing t.class ≤ 64)) term_width) in
       let expressions = terms-few typing rule.witness_terms (witness_terms (λ t. (1 ≤ slice_index typing t.class) × (slice_index typing t.class ≤ 64)) term_width) in
-      let precondition = sum-le (formula_gates (widths_of_terms rule typing)) (formula_bound (widths_of_terms rule typing)) rule.precondition (formulas (λ f. formula_gates (widths_of_terms rule typing) f ≤ formula_bound (widths_of_terms rule typing) f) formula_few) in
+      let precondition = sums-le (formula_gates (widths_of_terms rule typing)) (fact_gates (widths_of_terms rule typing)) (formula_bound (widths_of_terms rule typing)) rule.precondition
+      (formulas (λ f. formula_gates (widths_of_terms rule typing) f + fact_gates (widths_of_terms rule typing) f ≤ formula_bound (widths_of_terms rule typing) f) formula_few) in
       let choices = sum-le (λ n. select_gates (slice_index (widths_of_witness rule typing) n)) (choice_bound (widths_of_witness rule typing)) rule.witnesses (λ k d below. omega arith) in
       omega arith
 

@@ -1,5 +1,5 @@
 -- The effects of both halves, put together from those of their parts.
-use Rattle.blast_rule.proofs.Common.{◌≡◌, ℕ, Bool, true, false, if◌then◌else◌, List, [], ◌∷◌, ◌++◌, map, refl, sym, ap, subst, ◌∙◌, slice_index, All, unwrap_or, Number, Poison, Effect, Ghosts, Keeps, Keeps-trans, Rule, Statement, IsRule, Holds, given_by, at_start, temporaries_of, holding_source, StatementGives, Follows, SourceGives, TargetGives, TargetGoesOn, TemporariesEnd, value_of, Meanings, Setting, Chooses, meanings_at, witness_number, witness_values, witness_width, follows_once, Blasted, held_value, effect_of, IsOwn, IsOwnEffect, Scope, AreTerms, number_held, holds, seen, ending, IsGiven, MeansNames, numbers_chosen, number_chosen, term_widths, AllOwn-kept, values-kept, numbers_held-kept, numbers_of-kept, effect_of-kept, temporaries_same}
+use Rattle.blast_rule.proofs.Common.{◌≡◌, ℕ, ◌↔◌, Bool, true, false, ◌&&◌, ◌||◌, if◌then◌else◌, List, [], ◌∷◌, ◌++◌, map, refl, sym, ap, subst, ◌∙◌, IsTrue, slice_index, All, unwrap_or, Number, Poison, Effect, Ghosts, number_of, Keeps, Keeps-trans, Rule, Statement, IsRule, facts_hold, KeepsFacts, Ending, Holds, given_by, at_start, temporaries_of, holding_source, StatementGives, Follows, SourceGives, TargetGives, TargetGoesOn, TemporariesEnd, value_of, Meanings, constant_values, number_or_zero, Setting, Chooses, meanings_at, witness_number, witness_values, witness_width, follows_once, Blasted, held_value, effect_of, IsOwn, IsOwnEffect, Scope, AreTerms, number_held, holds, seen, ending, IsGiven, MeansNames, numbers_chosen, number_chosen, term_widths, AllOwn-kept, values-kept, numbers_held-kept, numbers_of-kept, effect_of-kept, temporaries_same}
 use Rattle.ops.specs.declared.value.Effect.TheVariants as effects
 use Rattle.rule_core.specs.Run.{Held as Registry}
 use Rattle.blast_value.specs.declared.held.Held.{Held}
@@ -12,6 +12,18 @@ use Rattle.blast_rule.proofs.Steps.{source-gives, target-gives}
 ended : (undefined : Bool) (now held : Registry) → ending undefined now ≡ Holds held → now ≡ held
 ended true now held is = cc
 ended false now held is = cc
+
+-- nothing holds where one had undefined behaviour
+not_ended : (undefined : Bool) (now held : Registry) → undefined ≡ true → ending undefined now ≡ Holds held → ⊥
+not_ended true now held is end = cc
+not_ended false now held is end = cc
+
+-- a literal that is true where another is and, but where that is excused, something holds
+said_where : (excused met kept said : Bool) (P : Type 0) → kept ≡ (met && (excused || said)) → (excused ≡ true → P) → (excused ≡ false → IsTrue said ↔ P) → IsTrue kept ↔ (IsTrue met × P)
+said_where true true kept said P is without told = (λ h. (refl, without refl), λ h. is)
+said_where false true kept said P is without told = (λ h. (refl, (told refl).0 (sym is ∙ h)), λ h. is ∙ (told refl).1 h.1)
+said_where true false kept said P is without told = (λ h. let none = sym is ∙ h in absurd cc, λ h. let none = h.0 in absurd cc)
+said_where false false kept said P is without told = (λ h. let none = sym is ∙ h in absurd cc, λ h. let none = h.0 in absurd cc)
 
 -- both definitions of the numbers that `Wit:` chooses agree
 choices_same : (rule : Rule) (typing : List ℕ) (setting : Setting) (held : Registry) (places : List ℕ)
@@ -35,6 +47,24 @@ module _ {C L : Type 0} {state : Ghosts C L} {a b : C} (keeps : Keeps state a b)
   pub temporaries_end : Ran → TemporariesEnd typing at.constants rule at.inputs (ending (state.value b read u) (holds (state.value b read) inputs source []))
   temporaries_end ran = subst (λ vs. Follows typing (given_by typing at.constants [] rule) holding_source (temporaries_of rule) (at_start vs) (ending (state.value b read u) (holds (state.value b read) inputs source [])))
       (values-kept keeps read admitted inputs own_inputs) ran
+
+  -- what the temporaries keep of what the precondition says of bits
+  pub keeps_facts : Ran → (words : List (List L)) → AreTerms (state.value b read) rule typing at.constants words → (met kept : Bool)
+      → kept ≡ (met && (state.value b read u || facts_hold (holds (state.value b read) inputs source []) (map (number_of (state.value b read)) words) rule.precondition))
+      → IsTrue kept ↔ (IsTrue met × KeepsFacts rule typing at.constants at.inputs)
+  keeps_facts ran words terms_are met kept is =
+      let now : Registry = holds (state.value b read) inputs source [] in
+      let numbers = map number_or_zero (constant_values typing at.constants rule) in
+      let end = temporaries_end ran in
+      let once : (held : Registry) → TemporariesEnd typing at.constants rule at.inputs (Holds held) → ending (state.value b read u) now ≡ Holds held =
+      λ held ends. follows_once typing (given_by typing at.constants [] rule) holding_source (temporaries_of rule) (at_start at.inputs) (ending (state.value b read u) now) (Holds held) end ends in
+      said_where (state.value b read u) met kept (facts_hold now numbers rule.precondition) (KeepsFacts rule typing at.constants at.inputs)
+      (is ∙ ap (λ ns. met && (state.value b read u || facts_hold now ns rule.precondition)) terms_are)
+      (λ undefined held ends. absurd (not_ended (state.value b read u) now held undefined (once held ends)))
+      (λ defined. (
+        λ said held ends. subst (λ (h : Registry). IsTrue (facts_hold h numbers rule.precondition)) (ended (state.value b read u) now held (once held ends)) said,
+        λ keeps_them. keeps_them now (subst (λ (x : Ending). TemporariesEnd typing at.constants rule at.inputs x) (ap (λ (q : Bool). ending q now) defined) end),
+      ))
 
   -- the numbers that `Wit:` chooses after the temporaries
   pub chooses : Ran → (before : Scope L) → Reads before inputs source [] constants left_open terms → (words : List Number) → ((names : Meanings) → MeansNames (state.value b read) before names → words ≡ numbers_chosen typing names rule) → Chooses rule typing at words

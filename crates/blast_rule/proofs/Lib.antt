@@ -11,6 +11,7 @@ pub mod Ready
 pub mod Scopes
 pub mod Shapes
 pub mod Chosen
+pub mod Facts
 pub mod Joined
 pub mod Sharing
 pub mod Whole

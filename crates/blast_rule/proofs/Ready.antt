@@ -60,7 +60,7 @@ module _ {L : Type 0} (rule : Rule) (typing : List ℕ) (checked : IsRule rule) 
 
 -- each comparison of the precondition reads two terms of the same width
 module _ (rule : Rule) (typing : List ℕ) (checked : IsRule rule) (typed : IsTyping rule typing) where
-  term_there : (a : ℕ) → a < length rule.terms → (x : Term) × (N : ℕ) × (slice_get rule.terms a ≡ Some x) × (slice_get typing x.class ≡ Some N) × (slice_get (term_widths typing rule.terms) a ≡ Some N) × (1 ≤ N) × (N ≤ 64)
+  pub term_there : (a : ℕ) → a < length rule.terms → (x : Term) × (N : ℕ) × (slice_get rule.terms a ≡ Some x) × (slice_get typing x.class ≡ Some N) × (slice_get (term_widths typing rule.terms) a ≡ Some N) × (1 ≤ N) × (N ≤ 64)
   term_there a within =
       let d : Term = record { class = 0; node = nodes.Constant 0 } in
       let x = get_or rule.terms a d in
@@ -79,6 +79,8 @@ module _ (rule : Rule) (typing : List ℕ) (checked : IsRule rule) (typed : IsTy
   formula_held n f at (formulas.IsPowerOfTwo a) is may = let x = term_there a may in (x.1, x.5, x.6, x.4)
   formula_held n f at (formulas.IsSignBit a) is may = let x = term_there a may in (x.1, x.5, x.6, x.4)
   formula_held n f at (formulas.HasOneUse j) is may = tt
+  formula_held n f at (formulas.MaskedValueIsZero r a) is may = tt
+  formula_held n f at (formulas.IsKnownNonZero r) is may = tt
   formula_held n f at (formulas.Not a) is may = may
   formula_held n f at (formulas.And a b) is may = may
   formula_held n f at (formulas.Or a b) is may = may

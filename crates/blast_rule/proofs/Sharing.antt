@@ -17,13 +17,16 @@ source_shared rule typing some =
     let root = last_statement rule.source some in
     source_gates rule typing root.0 some root.2 ∙ ap (λ n. run_gates typing (temporaries_of rule) + n) (sym (root_gates-are rule typing root.0 some root.2))
 
--- After each part is built, the gates so far are no more than those of all parts: after the temporaries, and then with
--- `Wit:`, the root and the target.
-pub first : (witness temporaries root source target : ℕ) → source ≡ temporaries + root → temporaries ≤ witness + (source + target + 1)
-first witness temporaries root source target is = omega arith
+-- The gates of what was built first are no more than all:
+-- the temporaries', before those of `Wit:`, the root, the target, one, and what is said of bits;
+pub first : (witness temporaries root source target said : ℕ) → source ≡ temporaries + root → temporaries ≤ witness + (source + target + 1) + said
+first witness temporaries root source target said is = omega arith
 
-pub all : (witness temporaries root source target : ℕ) → source ≡ temporaries + root → temporaries + (witness + root + target + 1) ≤ witness + (source + target + 1)
-all witness temporaries root source target is = omega arith
+pub unsaid : (witness temporaries root source target said : ℕ) → source ≡ temporaries + root → temporaries + (witness + root + target + 1) ≤ witness + (source + target + 1) + said
+unsaid witness temporaries root source target said is = omega arith
+
+pub all : (witness temporaries root source target said : ℕ) → source ≡ temporaries + root → temporaries + (witness + root + target + 1) + said ≤ witness + (source + target + 1) + said
+all witness temporaries root source target said is = omega arith
 
 -- the same, counted from after the temporaries: with `Wit:`, with the root, and with the target
 pub early : (witness root target : ℕ) → witness ≤ witness + root + target + 1

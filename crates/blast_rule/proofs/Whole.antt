@@ -1,5 +1,5 @@
 -- The circuit of a rule as a whole.
-use Rattle.blast_rule.proofs.Common.{◌≡◌, ℕ, ◌↔◌, ◌+◌, ◌≤◌, Bool, true, false, ◌&&◌, List, map, Result, Ok, Err, refl, sym, subst, ◌∙◌, arith, IsTrue, OnOk, All, Number, AllowsEffect, Effect, Ghosts, Keeps, Rule, IsTyping, IsRule, PreconditionHolds, Setting, SettingFits, HaveEffects, RulesHaveOneOutcome, Blasted, effect_of, IsOwnEffect, Refutes, number_held, numbers_held-kept, effect_of-kept}
+use Rattle.blast_rule.proofs.Common.{◌≡◌, ℕ, ◌↔◌, ◌+◌, ◌≤◌, Bool, true, false, ◌&&◌, List, map, Result, Ok, Err, refl, sym, subst, ◌∙◌, arith, IsTrue, OnOk, All, Number, AllowsEffect, Effect, Ghosts, Keeps, Rule, IsTyping, IsRule, KeepsFacts, PreconditionHolds, Setting, SettingFits, HaveEffects, RulesHaveOneOutcome, Blasted, effect_of, IsOwnEffect, Refutes, number_held, numbers_held-kept, effect_of-kept}
 
 pub falsity : IsTrue false → ⊥
 falsity h = cc
@@ -22,17 +22,17 @@ true_where P met met' holds b kept is same = (
 -- A literal that is true exactly where the precondition holds and the source's effect doesn't allow the target's is
 -- true exactly at a counterexample.
 pub refutes : RulesHaveOneOutcome → (rule : Rule) (typing : List ℕ) (setting : Setting) (choices : List Number) (source target : Effect) (met b : Bool) → IsRule rule → IsTyping rule typing → SettingFits rule typing setting
-    → HaveEffects rule typing setting choices source target → (IsTrue met ↔ PreconditionHolds rule typing setting.constants) → (IsTrue b ↔ (IsTrue met × ¬ AllowsEffect source target)) → IsTrue b ↔ Refutes rule typing setting
+    → HaveEffects rule typing setting choices source target → (IsTrue met ↔ (PreconditionHolds rule typing setting.constants × KeepsFacts rule typing setting.constants setting.inputs)) → (IsTrue b ↔ (IsTrue met × ¬ AllowsEffect source target)) → IsTrue b ↔ Refutes rule typing setting
 refutes one rule typing setting choices source target met b checked typed fits have holds is = (
   λ h.
       let parts = is.0 h in
-      (choices, source, target, record { counts = record { fits = fits; precondition = holds.0 parts.0 }; effects = have; refused = parts.1 }),
+      (choices, source, target, record { counts = record { fits = fits; precondition = (holds.0 parts.0).0; facts = (holds.0 parts.0).1 }; effects = have; refused = parts.1 }),
   λ (ch, s, t, counter).
       let o = one rule typing setting checked typed fits in
       let here = o.4 choices source target have in
       let there = o.4 ch s t counter.effects in
       is.1 (
-        holds.1 counter.counts.precondition,
+        holds.1 (counter.counts.precondition, counter.counts.facts),
         λ allowed. counter.refused (subst (λ e. AllowsEffect e t) (here.0 ∙ sym there.0) (subst (AllowsEffect source) (here.1 ∙ sym there.1) allowed)),
       ),
 )
@@ -55,11 +55,11 @@ pub gates_within : (old one now total : ℕ) → one ≡ old → now ≤ one + t
 gates_within old one now total same added = omega arith
 
 -- the gates of the first parts are within those of all
-pub first_within : (given witness halves refusal : ℕ) → given ≤ given + witness + halves + refusal + 1
-first_within given witness halves refusal = omega arith
+pub first_within : (given witness halves said refusal : ℕ) → given ≤ given + witness + halves + said + refusal + 1
+first_within given witness halves said refusal = omega arith
 
-pub second_within : (given witness halves refusal : ℕ) → given + (witness + halves) ≤ given + witness + halves + refusal + 1
-second_within given witness halves refusal = omega arith
+pub second_within : (given witness halves said refusal : ℕ) → given + (witness + halves + said) ≤ given + witness + halves + said + refusal + 1
+second_within given witness halves said refusal = omega arith
 
-pub third_within : (given witness halves refusal : ℕ) → given + (witness + halves) + (refusal + 1) ≤ given + witness + halves + refusal + 1
-third_within given witness halves refusal = omega arith
+pub third_within : (given witness halves said refusal : ℕ) → given + (witness + halves + said) + (refusal + 1) ≤ given + witness + halves + said + refusal + 1
+third_within given witness halves said refusal = omega arith

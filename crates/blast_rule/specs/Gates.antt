@@ -10,7 +10,7 @@ use Rattle.rule_core.specs.Positions.{classes_of_statement}
 use Rattle.blast_value.specs.declared.instruction.Instruction.TheVariants as instructions
 use Rattle.blast_value.specs.Gates.{gates_of, greatest}
 use Rattle.blast_value.specs.Laws.{bound}
-use Rattle.blast_term.specs.Gates.{terms_gates, numbers_gates, choices_gates, precondition_gates, term_bound, formula_bound, choice_bound}
+use Rattle.blast_term.specs.Gates.{terms_gates, numbers_gates, choices_gates, precondition_gates, facts_gates, term_bound, formula_bound, choice_bound}
 
 -- An operation with a result of iN: the circuit of its instruction, which for a comparison and a cast is over the width
 -- of the operands; a freeze has one gate for each bit, and a copy none.
@@ -65,11 +65,15 @@ witness_gates rule typing = terms_gates typing rule.witness_terms + choices_gate
 abbrev pub halves_gates : Rule → List ℕ → ℕ
 halves_gates rule typing = run_gates typing rule.source + run_gates typing rule.target + 1
 
--- A rule: its terms and precondition, the numbers that `Wit:` chooses, both halves, whether the source's effect doesn't
--- allow the target's, and one gate for the conjunction with the precondition.
+-- what the precondition says of bits
+abbrev pub said_gates : Rule → List ℕ → ℕ
+said_gates rule typing = facts_gates (widths_of_terms rule typing) rule.precondition
+
+-- A rule: its terms and precondition, what `Wit:` chooses, both halves, what the precondition says of bits, whether the
+-- source's effect allows the target's, and one for whether the precondition holds then.
 abbrev pub most_gates : Rule → List ℕ → ℕ
 most_gates rule typing =
-    given_gates rule typing + witness_gates rule typing + halves_gates rule typing + refusal_gates (root_width rule typing) + 1
+    given_gates rule typing + witness_gates rule typing + halves_gates rule typing + said_gates rule typing + refusal_gates (root_width rule typing) + 1
 
 -- the greatest width of a statement's result and operands
 abbrev pub greatest_width : List ℕ → Statement → ℕ

@@ -4,9 +4,11 @@ ghost use Rattle.std.specs.List.{All};
 ghost use Rattle.rule_core.specs.Checks.{IsRule};
 ghost use Rattle.rule_core.specs.Positions.{classes_of_statement, operands_of};
 ghost use Rattle.rule_core.specs.Typing.{IsTyping};
-ghost use Rattle.blast_rule.specs.Gates.{most_gates, given_gates, witness_gates, halves_gates, run_gates, op_gates, root_width};
+ghost use Rattle.blast_rule.specs.Gates.{most_gates, given_gates, witness_gates, halves_gates, said_gates, run_gates, op_gates, root_width};
 
-use blast_term::{choices_gates, formulas_gates, numbers_gates, terms_gates, width_of};
+use blast_term::{
+    choices_gates, facts_gates, formulas_gates, numbers_gates, terms_gates, width_of,
+};
 use blast_value::{Instruction, gates_of};
 use ops::Width;
 use rule_core::{Op, Rule, Statement, Typing};
@@ -22,6 +24,7 @@ pub fn most_gates(rule: &Rule, typing: &Typing) -> u32
     given_gates(rule, widths)
         + witness_gates(rule, widths)
         + halves_gates(rule, widths)
+        + said_gates(rule, widths)
         + 2 * root_width(rule, widths).bits()
         + 4
         + 1
@@ -65,6 +68,17 @@ fn halves_gates(rule: &Rule, typing: &[Width]) -> u32
     let source = rule.source.as_slice();
     let target = rule.target.as_slice();
     run_gates(typing, source) + run_gates(typing, target) + 1
+}
+
+/// The same of what the precondition says of bits.
+fn said_gates(rule: &Rule, typing: &[Width]) -> u32
+    requires rule { IsRule rule.now }
+    requires typing { IsTyping rule.now typing.now }
+    ensures value { result ≡ said_gates rule.now typing.now }
+    ensures few { result ≤ 256 * 195 }
+{
+    let terms = rule.terms.as_slice();
+    facts_gates(typing, terms, rule.precondition.as_slice())
 }
 
 /// The width of the root.

@@ -1,15 +1,16 @@
 //! The halves of a rule as literals.
-ghost use Rattle.std.specs.Prelude.{◌≡◌, ◌+◌, [], if◌then◌else◌, Bool, List as Seq, length, map, IfOk};
+ghost use Rattle.std.specs.Prelude.{◌≡◌, ◌+◌, ◌↔◌, [], if◌then◌else◌, IsTrue, Bool, List as Seq, length, map, IfOk};
 ghost use Rattle.std.specs.List.{All};
 ghost use Rattle.ops.specs.declared.value.Effect.TheVariants.{Undefined};
 ghost use Rattle.circuits.specs.Circuit.{Adds};
 ghost use Rattle.rule_core.specs.Checks.{IsRule};
+ghost use Rattle.rule_core.specs.Facts.{KeepsFacts};
 ghost use Rattle.rule_core.specs.Typing.{IsTyping};
 ghost use Rattle.rule_core.specs.Run.{given_by};
 ghost use Rattle.rule_core.specs.Valid.{Setting, HaveEffects};
 ghost use Rattle.rule_core.specs.Readiness.{ValuesFit};
 ghost use Rattle.blast_value.specs.Effect.{effect_of, widths_of, IsOwnEffect};
-ghost use Rattle.blast_rule.specs.Gates.{witness_gates, halves_gates, run_gates, root_gates, root_width, widths_of_terms};
+ghost use Rattle.blast_rule.specs.Gates.{witness_gates, halves_gates, said_gates, run_gates, root_gates, root_width, widths_of_terms};
 ghost use Rattle.blast_setting.specs.Inputs.{input_widths, constant_widths, choice_widths};
 ghost use Rattle.blast_setting.specs.SettingBits.{setting_held, SettingIsOwn, HasWidths};
 ghost use Rattle.blast_rule.specs.Runs.{shape, setting_seen, AreTerms, TemporariesRan};
@@ -20,7 +21,7 @@ use crate::statement::blast_next;
 use crate::target::blast_target;
 use crate::temporaries::blast_temporaries;
 use blast_setting::SettingBits;
-use blast_term::{Scope, blast_witness};
+use blast_term::{Scope, blast_facts, blast_witness};
 use blast_value::Blasted;
 use circuits::{Bits, Circuit, or};
 use lists::List;
@@ -37,8 +38,9 @@ pub(crate) struct Halves<L> {
     pub(crate) target: Blasted<L>,
 }
 
-/// The numbers that `Wit:` chooses and the effects of source and target at a setting, where the rule's terms have these
-/// numbers. The source's temporaries are built once, for both halves.
+/// Whether `met` holds and the source's temporaries keep what the precondition says of bits, what `Wit:` chooses, and
+/// what the source and the target do at a setting, where the rule's terms have these numbers. The source's temporaries
+/// are built once.
 pub(crate) fn blast_halves<C: Circuit>(
     alloc: Global,
     c: &mut C,
@@ -46,25 +48,33 @@ pub(crate) fn blast_halves<C: Circuit>(
     typing: &[Width],
     setting: &SettingBits<C::Literal>,
     terms: &[Bits<C::Literal>],
-) -> Result<Halves<C::Literal>, AllocError>
+    met: C::Literal,
+) -> Result<(C::Literal, Halves<C::Literal>), AllocError>
     requires rule { IsRule rule.now }
     requires typing { IsTyping rule.now typing.now }
     requires widths { HasWidths rule.now typing.now setting.now }
     requires widths_of_terms { map length terms.now ≡ widths_of_terms rule.now typing.now }
     requires own { SettingIsOwn (C.has_literal c.old) setting.now }
     requires own_terms { All (All (C.has_literal c.old)) terms.now }
+    requires own_met { C.has_literal c.old met }
+    ensures met { IfOk result (λ made. (inputs : Seq Bool) (at : Setting) → C.admits c.old inputs →
+        setting_held (C.value c.old inputs) setting.now ≡ at →
+        AreTerms (C.value c.old inputs) rule.now typing.now at.constants terms.now →
+        IsTrue (C.value c.new inputs made.0)
+        ↔ (IsTrue (C.value c.old inputs met) × KeepsFacts rule.now typing.now at.constants at.inputs)) }
     ensures effects { IfOk result (λ made. (inputs : Seq Bool) (at : Setting) → C.admits c.old inputs →
         setting_held (C.value c.old inputs) setting.now ≡ at →
         AreTerms (C.value c.old inputs) rule.now typing.now at.constants terms.now →
-        HaveEffects rule.now typing.now at (map (number_held (C.value c.new inputs)) made.choices)
-        (effect_of (C.value c.new inputs) made.source) (effect_of (C.value c.new inputs) made.target)) }
-    ensures source_width { IfOk result (λ made. length made.source.bits ≡ root_width rule.now typing.now) }
-    ensures target_width { IfOk result (λ made. length made.target.bits ≡ root_width rule.now typing.now) }
-    ensures own_choices { IfOk result (λ made. All (All (C.has_literal c.new)) made.choices) }
-    ensures own_source { IfOk result (λ made. IsOwnEffect (C.has_literal c.new) made.source) }
-    ensures own_target { IfOk result (λ made. IsOwnEffect (C.has_literal c.new) made.target) }
+        HaveEffects rule.now typing.now at (map (number_held (C.value c.new inputs)) made.1.choices)
+        (effect_of (C.value c.new inputs) made.1.source) (effect_of (C.value c.new inputs) made.1.target)) }
+    ensures source_width { IfOk result (λ made. length made.1.source.bits ≡ root_width rule.now typing.now) }
+    ensures target_width { IfOk result (λ made. length made.1.target.bits ≡ root_width rule.now typing.now) }
+    ensures own_met { IfOk result (λ made. C.has_literal c.new made.0) }
+    ensures own_choices { IfOk result (λ made. All (All (C.has_literal c.new)) made.1.choices) }
+    ensures own_source { IfOk result (λ made. IsOwnEffect (C.has_literal c.new) made.1.source) }
+    ensures own_target { IfOk result (λ made. IsOwnEffect (C.has_literal c.new) made.1.target) }
     ensures adds { Adds C.State c.old c.new
-        (witness_gates rule.now typing.now + halves_gates rule.now typing.now) }
+        (witness_gates rule.now typing.now + halves_gates rule.now typing.now + said_gates rule.now typing.now) }
 {
     let start = scope_of(setting, terms);
     let temporaries = blast_temporaries(alloc, c, rule, typing, start)?;
@@ -73,7 +83,10 @@ pub(crate) fn blast_halves<C: Circuit>(
         choices: setting.target_choices.as_slice(),
         ..start
     };
-    after_temporaries(alloc, c, rule, typing, before, temporaries.undefined)
+    let halves = after_temporaries(alloc, c, rule, typing, before, temporaries.undefined)?;
+    let formulas = rule.precondition.as_slice();
+    let met = blast_facts(alloc, c, formulas, before, temporaries.undefined, met)?;
+    Ok((met, halves))
 }
 
 /// The rest, once the source's temporaries are built: `before` has their values, and `undefined` says whether one of

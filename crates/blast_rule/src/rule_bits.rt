@@ -95,11 +95,9 @@ fn blast_at<C: Circuit>(
     ensures adds { Adds C.State c.old c.new (most_gates rule.now typing.now) }
 {
     rule_core::every_rule_has_one_outcome();
-    let (met, halves) = {
-        let given = blast_given(alloc, c, rule, typing, setting.constants.as_slice())?;
-        let halves = blast_halves(alloc, c, rule, typing, setting, given.terms.as_slice())?;
-        (given.met, halves)
-    };
+    let given = blast_given(alloc, c, rule, typing, setting.constants.as_slice())?;
+    let terms = given.terms.as_slice();
+    let (met, halves) = blast_halves(alloc, c, rule, typing, setting, terms, given.met)?;
     let bad = refusal_where(alloc, c, met, &halves.source, &halves.target)?;
     Ok(RuleBits {
         bad,

@@ -8,4 +8,5 @@ pub mod Comparing
 pub mod Formulas
 pub mod Nodes
 pub mod Counts
+pub mod Said
 pub mod Tests

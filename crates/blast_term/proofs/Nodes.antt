@@ -21,7 +21,7 @@ word_read : {L : Type 0} (value : L → Bool) (words : List (List L)) (numbers :
 word_read value words numbers k word is at =
     ap (λ o. option_map_or Bits o Poison) (sym (slice_get-map (number_held value) words k ∙ ap (option_map (number_held value)) at)) ∙ ap (λ ns. number_at ns k) (sym is)
 
-seen_read : {L : Type 0} (value : L → Bool) (scope : Scope L) (r : Register) (h : Held L) → held_at scope r ≡ Some h → value_of (seen value scope) r ≡ Some (held_value value h)
+pub seen_read : {L : Type 0} (value : L → Bool) (scope : Scope L) (r : Register) (h : Held L) → held_at scope r ≡ Some h → value_of (seen value scope) r ≡ Some (held_value value h)
 seen_read value scope (registers.Input k) h at = slice_get-map (held_value value) scope.inputs.now k ∙ ap (option_map (held_value value)) at
 seen_read value scope (registers.Source k) h at = slice_get-map (held_value value) scope.source.now k ∙ ap (option_map (held_value value)) at
 seen_read value scope (registers.Target k) h at = slice_get-map (held_value value) scope.target.now k ∙ ap (option_map (held_value value)) at

@@ -3,7 +3,7 @@
 use Rattle.std.specs.Prelude.{ℕ, ◌+◌, ◌*◌, List, length, sum_by, slice_index}
 use Rattle.ops.specs.Flags.{no_flags}
 use Rattle.ops.specs.declared.opcode.Opcode.TheVariants.{Sub, Xor}
-use Rattle.circuits.specs.Gates.{adder_gates, comparison_gates, equality_gates, select_gates}
+use Rattle.circuits.specs.Gates.{any_gates, adder_gates, comparison_gates, equality_gates, select_gates}
 use Rattle.rule_core.specs.declared.rule.Term.{Term}
 use Rattle.rule_core.specs.declared.rule.Node.{Node}
 use Rattle.rule_core.specs.declared.rule.Node.TheVariants as nodes
@@ -12,7 +12,7 @@ use Rattle.rule_core.specs.declared.rule.Function.TheVariants.{Negate, Not, Log2
 use Rattle.rule_core.specs.declared.rule.Formula.{Formula}
 use Rattle.rule_core.specs.declared.rule.Formula.TheVariants as formulas
 use Rattle.blast_value.specs.declared.instruction.Instruction.TheVariants as instructions
-use Rattle.blast_value.specs.Gates.{opcode_gates, sign_gates}
+use Rattle.blast_value.specs.Gates.{opcode_gates, sharing_gates, sign_gates}
 use Rattle.blast_value.specs.Laws.{bound}
 
 -- the exponent of a power of two of iN: for each bit six gates for the number of its place, and two for whether it is
@@ -69,6 +69,8 @@ formula_gates widths (formulas.Compare pred a b) = comparing_gates (slice_index 
 formula_gates widths (formulas.IsPowerOfTwo a) = power_test_gates (slice_index widths a)
 formula_gates widths (formulas.IsSignBit a) = sign_test_gates (slice_index widths a)
 formula_gates widths (formulas.HasOneUse j) = 0
+formula_gates widths (formulas.MaskedValueIsZero r a) = 0
+formula_gates widths (formulas.IsKnownNonZero r) = 0
 formula_gates widths (formulas.Not a) = 0
 formula_gates widths (formulas.And a b) = 1
 formula_gates widths (formulas.Or a b) = 1
@@ -80,6 +82,16 @@ formulas_gates widths formulas = sum_by (formula_gates widths) formulas
 abbrev pub precondition_gates : List ℕ → List Formula → ℕ
 precondition_gates widths formulas = formulas_gates widths formulas + length widths
 
+-- what a node says of bits: whether a register is poison or has a bit of a mask of iN, or of a word of at most i64, and
+-- two for whether that need hold and whether all before it does
+abbrev pub fact_gates : List ℕ → Formula → ℕ
+fact_gates widths (formulas.MaskedValueIsZero r a) = sharing_gates (slice_index widths a) + 3
+fact_gates widths (formulas.IsKnownNonZero r) = any_gates 64 + 3
+fact_gates widths formula = 0
+
+abbrev pub facts_gates : List ℕ → List Formula → ℕ
+facts_gates widths formulas = sum_by (fact_gates widths) formulas
+
 -- the bound of a node: 64 gates for each bit, and for a product, a quotient or a remainder 64 more for each pair of
 -- bits
 abbrev pub node_bound : Node → ℕ → ℕ
@@ -90,11 +102,14 @@ node_bound node N = 64 * N
 abbrev pub term_bound : List ℕ → Term → ℕ
 term_bound typing t = node_bound t.node (slice_index typing t.class)
 
--- the bound of a node of a formula: at the width of the terms that it reads, or at i1 where it reads formulas
+-- of a node of a formula and what it says of bits, over its operands' width, or over i1 where they are formulas, and
+-- twice that where it is a register
 abbrev pub formula_bound : List ℕ → Formula → ℕ
 formula_bound widths (formulas.Compare pred a b) = 64 * slice_index widths a
 formula_bound widths (formulas.IsPowerOfTwo a) = 64 * slice_index widths a
 formula_bound widths (formulas.IsSignBit a) = 64 * slice_index widths a
+formula_bound widths (formulas.MaskedValueIsZero r a) = 64 * slice_index widths a
+formula_bound widths (formulas.IsKnownNonZero r) = 128
 formula_bound widths formula = 64
 
 -- the bound of the number that `Wit:` gives for a choice of the source

@@ -1,6 +1,7 @@
 -- What the literals of terms stand for, and what is asked for building them: that each thing that a node reads has a
 -- word of the right width.
 use Rattle.std.specs.Prelude.{◌≡◌, ℕ, ◌≤◌, ◌<◌, List, length, map, take, Some, slice_get, slice_index, IsTrue, Bool}
+use Rattle.std.specs.List.{All}
 use Rattle.std.specs.Option.{unwrap_or}
 use Rattle.ops.specs.Number.{Number}
 use Rattle.ops.specs.declared.value.Value.{Value}
@@ -58,12 +59,23 @@ FormulaIsHeld widths before (formulas.Compare pred a b) = (N : ℕ) × (1 ≤ N)
 FormulaIsHeld widths before (formulas.IsPowerOfTwo a) = (N : ℕ) × (1 ≤ N) × (N ≤ 64) × (slice_get widths a ≡ Some N)
 FormulaIsHeld widths before (formulas.IsSignBit a) = (N : ℕ) × (1 ≤ N) × (N ≤ 64) × (slice_get widths a ≡ Some N)
 FormulaIsHeld widths before (formulas.HasOneUse j) = Unit {0}
+FormulaIsHeld widths before (formulas.MaskedValueIsZero r a) = Unit {0}
+FormulaIsHeld widths before (formulas.IsKnownNonZero r) = Unit {0}
 FormulaIsHeld widths before (formulas.Not a) = a < before
 FormulaIsHeld widths before (formulas.And a b) = (a < before) × (b < before)
 FormulaIsHeld widths before (formulas.Or a b) = (a < before) × (b < before)
 
 abbrev pub FormulasAreHeld : List ℕ → List Formula → Type 0
 FormulasAreHeld widths formulas = (n : ℕ) (f : Formula) → slice_get formulas n ≡ Some f → FormulaIsHeld widths n f
+
+-- what a node says bits of is there: a register, and of a mask a word as wide
+abbrev pub FactIsHeld : {L : Type 0} → Scope L → Formula → Type 0
+FactIsHeld scope (formulas.MaskedValueIsZero r a) = (held : Held _) × (held_at scope r ≡ Some held) × HasWord scope.terms.now a (length held.bits)
+FactIsHeld scope (formulas.IsKnownNonZero r) = (held : Held _) × (held_at scope r ≡ Some held) × (length held.bits ≤ 64)
+FactIsHeld scope formula = Unit {0}
+
+abbrev pub FactsAreHeld : {L : Type 0} → Scope L → List Formula → Type 0
+FactsAreHeld scope formulas = All (FactIsHeld scope) formulas
 
 -- The precondition is met by terms with these values: each of them is a number, and the formula is true.
 pub record PreconditionMet (given : List Value) (formulas : List Formula) : Type 0 where
@@ -83,4 +95,5 @@ abbrev pub ReadsTerms : ℕ → Formula → Type 0
 ReadsTerms count (formulas.Compare pred a b) = a < count
 ReadsTerms count (formulas.IsPowerOfTwo a) = a < count
 ReadsTerms count (formulas.IsSignBit a) = a < count
+ReadsTerms count (formulas.MaskedValueIsZero r a) = a < count
 ReadsTerms count formula = Unit {0}

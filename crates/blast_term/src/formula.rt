@@ -102,6 +102,8 @@ fn blast_formula<C: Circuit>(
         Formula::IsPowerOfTwo(a) => blast_has_one_bit(alloc, c, at(terms, a)),
         Formula::IsSignBit(a) => blast_is_sign_bit(alloc, c, at(terms, a)),
         Formula::HasOneUse(_) => Ok(c.one()),
+        Formula::MaskedValueIsZero(_, _) => Ok(c.one()),
+        Formula::IsKnownNonZero(_) => Ok(c.one()),
         Formula::Not(a) => Ok(c.not(*at(before, a))),
         Formula::And(a, b) => c.and(alloc, *at(before, a), *at(before, b)),
         Formula::Or(a, b) => or(alloc, c, *at(before, a), *at(before, b)),

@@ -5,6 +5,7 @@
 //! add; the older literals keep their values, and it makes no input.
 #![tactic(auto)]
 
+mod facts;
 mod formula;
 mod function;
 mod numbers;
@@ -16,10 +17,11 @@ mod term_gates;
 mod width;
 mod witness;
 
+pub use facts::blast_facts;
 pub use formula::blast_precondition;
 pub use numbers::{number, of_word, residue};
 pub use scope::{Scope, at, copied, register_held};
 pub use term::{blast_terms, numbers_or_zeros};
-pub use term_gates::{choices_gates, formulas_gates, numbers_gates, terms_gates};
+pub use term_gates::{choices_gates, facts_gates, formulas_gates, numbers_gates, terms_gates};
 pub use width::width_of;
 pub use witness::blast_witness;

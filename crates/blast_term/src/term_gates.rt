@@ -2,7 +2,7 @@
 ghost use Rattle.std.specs.Prelude.{◌≡◌, ◌≤◌, ◌<◌, ◌*◌, length, slice_index};
 ghost use Rattle.std.specs.List.{All};
 ghost use Rattle.blast_value.specs.Gates.{opcode_gates};
-ghost use Rattle.blast_term.specs.Gates.{node_gates, terms_gates, numbers_gates, choices_gates, formula_gates, formulas_gates};
+ghost use Rattle.blast_term.specs.Gates.{node_gates, terms_gates, numbers_gates, choices_gates, formula_gates, formulas_gates, fact_gates, facts_gates};
 ghost use Rattle.blast_term.specs.Terms.{term_widths, ReadsTerms};
 
 use crate::width::width_of;
@@ -105,7 +105,37 @@ fn formula_gates(typing: &[Width], terms: &[Term], formula: Formula) -> u32
         Formula::IsPowerOfTwo(a) => 8 * node_width(typing, terms, a).bits() + 1,
         Formula::IsSignBit(a) => 2 * node_width(typing, terms, a).bits() + 1,
         Formula::HasOneUse(_) | Formula::Not(_) => 0,
+        Formula::MaskedValueIsZero(_, _) | Formula::IsKnownNonZero(_) => 0,
         Formula::And(_, _) | Formula::Or(_, _) => 1,
+    }
+}
+
+/// The most gates that what the nodes of a formula say of bits takes.
+pub fn facts_gates(typing: &[Width], terms: &[Term], formulas: &[Formula]) -> u32
+    requires few { length formulas.now ≤ 256 }
+    requires classes { All (λ t. t.class < length typing.now) terms.now }
+    requires there { All (ReadsTerms (length terms.now)) formulas.now }
+    ensures value { result ≡ facts_gates (term_widths typing.now terms.now) formulas.now }
+    ensures few { result ≤ 256 * 195 }
+{
+    let mut gates = 0;
+    for formula in formulas {
+        gates += fact_gates(typing, terms, *formula);
+    }
+    gates
+}
+
+/// The same of a node of a formula.
+fn fact_gates(typing: &[Width], terms: &[Term], formula: Formula) -> u32
+    requires classes { All (λ t. t.class < length typing.now) terms.now }
+    requires there { ReadsTerms (length terms.now) formula }
+    ensures value { result ≡ fact_gates (term_widths typing.now terms.now) formula }
+    ensures few { result ≤ 195 }
+{
+    match formula {
+        Formula::MaskedValueIsZero(_, a) => 3 * node_width(typing, terms, a).bits() + 3,
+        Formula::IsKnownNonZero(_) => 67,
+        _ => 0,
     }
 }
 

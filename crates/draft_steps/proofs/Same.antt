@@ -56,4 +56,5 @@ module _ (f f' : Function) (b k : ℕ) (rule : Rule) (m : Binding) (is : Matches
     typing = is.typing;
     precondition = is.precondition;
     one_use = one_use;
+    no_facts = is.no_facts;
   }

@@ -1,5 +1,5 @@
 -- A text spells no more rules than it has bytes: each rule has a name, behind the five bytes of `Name:`.
-use Rattle.load_text.proofs.Common.{◌≡◌, ◌≢◌, ℕ, suc, ◌+◌, ◌-◌, ◌≤◌, Bool, true, false, cond, eqb, List, [], ◌∷◌, ◌++◌, length, refl, sym, ap, subst, ◌∙◌, arith, codes, drop, bytes_eq, length-take, bytes_eq-Decides, RuleKind, RuleToken, rest_of_line, IsNextRuleToken, Context, Version, context_behind, is_opcode, Limits, Token, Line, Name, Bad, Place, AtName, AtToken, TokensFrom, ends, token, name, bad_token, bad_name, token_of, token_on, token_at, word_of, is_called, bytes_at, place_behind, RawRule, SpellsRules, SpellsFile, RuleTextsAreSmall}
+use Rattle.load_text.proofs.Common.{◌≡◌, ◌≢◌, ℕ, suc, ◌+◌, ◌-◌, ◌≤◌, Bool, true, false, cond, eqb, List, [], ◌∷◌, ◌++◌, length, refl, sym, ap, subst, ◌∙◌, arith, codes, drop, Option, Some, None, bytes_eq, length-take, bytes_eq-Decides, RuleKind, RuleToken, rest_of_line, IsNextRuleToken, Context, Version, BitFact, context_behind, is_opcode, fact_in, Limits, Token, Line, Name, Bad, Place, AtName, AtToken, TokensFrom, ends, token, name, bad_token, bad_name, token_of, token_on, token_at, word_of, is_called, bytes_at, place_behind, RawRule, SpellsRules, SpellsFile, RuleTextsAreSmall}
 use Rattle.scan.specs.declared.rule_token.RuleKind.TheVariants as kinds
 
 -- how many of the tokens are names of rules
@@ -30,16 +30,17 @@ file_named limits raws tokens (version, (front, back, is_version, is, whole)) =
 -- ---- a text has no more of them than bytes
 
 -- no other token is one
-word_none : (opcode : Bool) (bytes : List ℕ) (tokens : List Token) → names_in (word_of opcode bytes ∷ tokens) ≡ names_in tokens
-word_none true bytes tokens = refl
-word_none false bytes tokens = refl
+word_none : (fact : Option BitFact) (opcode : Bool) (bytes : List ℕ) (tokens : List Token) → names_in (word_of fact opcode bytes ∷ tokens) ≡ names_in tokens
+word_none (Some fact) opcode bytes tokens = refl
+word_none None true bytes tokens = refl
+word_none None false bytes tokens = refl
 
 token_none : (c : Context) (called : Bool) (kind : RuleKind) (bytes : List ℕ) (tokens : List Token) → names_in (token_of c called kind bytes ∷ tokens) ≡ names_in tokens
 token_none c called kinds.End bytes tokens = refl
 token_none c called kinds.Other bytes tokens = refl
 token_none c called kinds.Head bytes tokens = refl
 token_none c called kinds.Register bytes tokens = refl
-token_none c called kinds.Word bytes tokens = word_none (is_opcode c called bytes) bytes tokens
+token_none c called kinds.Word bytes tokens = word_none (fact_in c.version bytes) (is_opcode c called bytes) bytes tokens
 token_none c called kinds.Number bytes tokens = refl
 token_none c called kinds.Arrow bytes tokens = refl
 token_none c called kinds.Mark bytes tokens = refl

@@ -171,6 +171,7 @@ module _ (Before Before' : ℕ → ℕ → Type 0) (f f' : Function) (to : Subst
     typing = is.typing;
     precondition = is.precondition;
     one_use = one_use_then;
+    no_facts = is.no_facts;
   }
 
 pub matches_stay : (Before Before' : ℕ → ℕ → Type 0) → MatchesStay Before Before'

@@ -25,6 +25,8 @@ module _ (rule : Rule) (typing : List ℕ) (constants : List Number) (checked : 
   can_be_read n (formulas.IsPowerOfTwo a) at may = omega (arith, (constant_values_fit rule typing constants checked typed fits).0)
   can_be_read n (formulas.IsSignBit a) at may = omega (arith, (constant_values_fit rule typing constants checked typed fits).0)
   can_be_read n (formulas.HasOneUse k) at may = tt
+  can_be_read n (formulas.MaskedValueIsZero r a) at may = tt
+  can_be_read n (formulas.IsKnownNonZero r) at may = tt
   can_be_read n (formulas.Not a) at may = may
   can_be_read n (formulas.And a b) at may = may
   can_be_read n (formulas.Or a b) at may = may

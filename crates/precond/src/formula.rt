@@ -17,7 +17,8 @@ pub(crate) fn formula_holds(values: &[Value], before: &[bool], formula: Formula)
         Formula::Compare(pred, a, b) => compares(pred, values[a as usize], values[b as usize]),
         Formula::IsPowerOfTwo(a) => has_one_bit(values[a as usize]),
         Formula::IsSignBit(a) => is_sign_bit(values[a as usize]),
-        Formula::HasOneUse(_) => true,
+        Formula::HasOneUse(_) | Formula::MaskedValueIsZero(_, _) | Formula::IsKnownNonZero(_) =>
+            true,
         Formula::Not(a) => !before[a as usize],
         Formula::And(a, b) => before[a as usize] && before[b as usize],
         Formula::Or(a, b) => before[a as usize] || before[b as usize],

@@ -15,8 +15,8 @@ use ops::{Value, Word};
 use rule_core::{Formula, Rule, Typing};
 
 /// Whether the precondition of a rule holds on these constants: each constant term, in the target too, has a value, and
-/// the formula of `Pre:` holds, evaluated without short-circuits. `hasOneUse` counts as true. It takes as many steps as
-/// the rule has nodes.
+/// the formula of `Pre:` holds, of which no part is left out. `hasOneUse` counts as true, and so does what is said of
+/// bits. It takes as many steps as the rule has nodes.
 pub fn holds(rule: &Rule, typing: &Typing, constants: &List<Word>) -> bool
     requires rule { IsRule rule.now }
     requires typing { IsTyping rule.now typing.now }

@@ -56,6 +56,7 @@ pub use Rattle.ops.specs.declared.value.Value.TheVariants.{Bits, Poison}
 pub use Rattle.rewriter.specs.Laws.{RewrittenFunctionsMeetChecks, RewrittenFunctionsRefine, RewrittenNumbersFit}
 pub use Rattle.rewriter.specs.Put.{argument_put, class_width, count_put, insts_of_op, insts_put, insts_with, is_copy, literal_of, operand_put, result_of_op, result_put, results_put, rewrite_of}
 pub use Rattle.rewriter.specs.Ready.{IsBound, OperandIsReady, op_put}
+pub use Rattle.rule_core.proofs.Facts.{nothing_said}
 pub use Rattle.rule_core.proofs.Fits.{number_or_zero_fits, residue_lt}
 pub use Rattle.rule_core.proofs.Givens.{get_taken, source_given}
 pub use Rattle.rule_core.proofs.Members.{Contains-flat_map, Contains-from_get, class_stands, flat_map-from, freeze_chosen, operand_class_stands, operand_open, source_operand, statement_open, target_operand, target_statement}

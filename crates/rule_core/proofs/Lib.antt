@@ -1,5 +1,6 @@
 pub mod Common
 pub mod Exponents
+pub mod Facts
 pub mod Fits
 pub mod Givens
 pub mod Members

@@ -18,7 +18,7 @@ use Rattle.rule_core.specs.declared.rule.Node.TheVariants as nodes
 use Rattle.rule_core.specs.declared.rule.Formula.{Formula}
 use Rattle.rule_core.specs.declared.rule.Formula.TheVariants as formulas
 use Rattle.rule_core.specs.Positions.{operands_of, operands_among, operands_in, terms_in, choices_among}
-use Rattle.rule_core.specs.FormulaNodes.{joint_of, OneUseIsOutermost}
+use Rattle.rule_core.specs.FormulaNodes.{joint_of, OuterIsOutermost}
 use Rattle.rule_core.specs.TermNodes.{NamesWidth, AreLastNodes}
 
 -- source statement k may read inputs, what earlier source statements assign, and constants; the root's may read `undef`
@@ -81,6 +81,7 @@ abbrev pub FormulaMayMeasure : Rule → Formula → Type 0
 FormulaMayMeasure rule (formulas.Compare pred a b) = MeasuresBeforeRoot rule a × MeasuresBeforeRoot rule b
 FormulaMayMeasure rule (formulas.IsPowerOfTwo a) = MeasuresBeforeRoot rule a
 FormulaMayMeasure rule (formulas.IsSignBit a) = MeasuresBeforeRoot rule a
+FormulaMayMeasure rule (formulas.MaskedValueIsZero r a) = MeasuresBeforeRoot rule a
 FormulaMayMeasure rule formula = Unit {0}
 
 -- node n of the expressions of `Wit:` may be this one
@@ -93,13 +94,15 @@ MayBeWitness rule n (nodes.Width r c) = IsBeforeRoot rule r
 MayBeWitness rule n (nodes.Unary function a) = a < n
 MayBeWitness rule n (nodes.Binary op a b) = (a < n) × (b < n)
 
--- node n of the precondition may be this one: its operands are earlier nodes of it, or constant terms, and `hasOneUse`
--- is asked of a source temporary
+-- and node n of the precondition: its operands are earlier nodes, or constant terms, one use is asked of a source's
+-- temporary, and bits are known of an input or of a source's temporary
 abbrev pub MayBeFormula : Rule → ℕ → Formula → Type 0
 MayBeFormula rule n (formulas.Compare pred a b) = (a < length rule.terms) × (b < length rule.terms)
 MayBeFormula rule n (formulas.IsPowerOfTwo a) = a < length rule.terms
 MayBeFormula rule n (formulas.IsSignBit a) = a < length rule.terms
 MayBeFormula rule n (formulas.HasOneUse j) = suc j < length rule.source
+MayBeFormula rule n (formulas.MaskedValueIsZero r a) = IsBeforeRoot rule r × (a < length rule.terms)
+MayBeFormula rule n (formulas.IsKnownNonZero r) = IsBeforeRoot rule r
 MayBeFormula rule n (formulas.Not a) = a < n
 MayBeFormula rule n (formulas.And a b) = (a < n) × (b < n)
 MayBeFormula rule n (formulas.Or a b) = (a < n) × (b < n)
@@ -146,6 +149,8 @@ term_weight t = node_weight t.node
 
 abbrev pub formula_weight : Formula → ℕ
 formula_weight (formulas.HasOneUse j) = 2
+formula_weight (formulas.MaskedValueIsZero r a) = 2
+formula_weight (formulas.IsKnownNonZero r) = 2
 formula_weight formula = 1
 
 -- what a whole rule counts as
@@ -216,8 +221,8 @@ pub record IsRule (rule : Rule) : Type 0 where
   pub temporaries_stay : (j : ℕ) (s : Statement) → suc j < length rule.source → slice_get rule.source j ≡ Some s → Contains (names_of rule.target) s.name → ⊥
   -- UnusedTemp: the source reads each of its temporaries, which only later statements may
   pub temporaries_read : (j : ℕ) → suc j < length rule.source → (q : ℕ) × ReadsAt rule q (registers.Source j)
-  -- the grammar: `hasOneUse` stands as a member of the outermost `&&` alone
-  pub one_use : OneUseIsOutermost (map joint_of rule.precondition)
+  -- the grammar: `hasOneUse`, and what is said of bits, stand as members of the outermost `&&` alone
+  pub outer : OuterIsOutermost (map joint_of rule.precondition)
   -- the source has no copies, and a freeze at its root alone; flags are those that the opcode takes
   pub source_ops : (k : ℕ) (s : Statement) → slice_get rule.source k ≡ Some s → MayStandInSource rule k s.op
   pub source_flags : (k : ℕ) (s : Statement) → slice_get rule.source k ≡ Some s → FlagsFitOp s.op

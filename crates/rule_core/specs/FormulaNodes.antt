@@ -6,8 +6,8 @@ use Rattle.rule_core.specs.declared.rule.Formula.TheVariants as formulas
 
 -- a node of a formula, as far as it matters to where `hasOneUse` may stand: by its operands among the nodes
 pub data Joint : Type 0 where
-  -- it is `hasOneUse`
-  OneUse : Joint
+  -- it may stand as a member of the outermost `&&` alone: `hasOneUse`, or what is said of a register's bits
+  Outer : Joint
   -- it is another node without operands in the formula, as a comparison
   Single : Joint
   Turns : (operand : ℕ) → Joint
@@ -15,7 +15,9 @@ pub data Joint : Type 0 where
   Either : (left right : ℕ) → Joint
 
 abbrev pub joint_of : Formula → Joint
-joint_of (formulas.HasOneUse j) = OneUse
+joint_of (formulas.HasOneUse j) = Outer
+joint_of (formulas.MaskedValueIsZero r a) = Outer
+joint_of (formulas.IsKnownNonZero r) = Outer
 joint_of (formulas.Not a) = Turns a
 joint_of (formulas.And a b) = Both a b
 joint_of (formulas.Or a b) = Either a b
@@ -28,18 +30,18 @@ IsPartOf a (Both b c) = (a ≡ b) ⊎ (a ≡ c)
 IsPartOf a (Either b c) = (a ≡ b) ⊎ (a ≡ c)
 IsPartOf a node = ⊥
 
--- `hasOneUse` stands in the formula whose last node is at the place
-pub data AsksOneUse (joints : List Joint) : ℕ → Type 0 where
-  itself : {n : ℕ} → slice_get joints n ≡ Some OneUse → AsksOneUse joints n
-  part : {n : ℕ} (a : ℕ) (node : Joint) → slice_get joints n ≡ Some node → IsPartOf a node → AsksOneUse joints a → AsksOneUse joints n
+-- such a member stands in what the node at the place is the whole of
+pub data HasOuter (joints : List Joint) : ℕ → Type 0 where
+  itself : {n : ℕ} → slice_get joints n ≡ Some Outer → HasOuter joints n
+  part : {n : ℕ} (a : ℕ) (node : Joint) → slice_get joints n ≡ Some node → IsPartOf a node → HasOuter joints a → HasOuter joints n
 
 -- where it may stand below this node: in no `!`, in no `||`, and on the right of a `&&` only as the whole right side
-abbrev pub OneUseMayStand : List Joint → Joint → Type 0
-OneUseMayStand joints (Turns a) = ¬ AsksOneUse joints a
-OneUseMayStand joints (Both a b) = AsksOneUse joints b → slice_get joints b ≡ Some OneUse
-OneUseMayStand joints (Either a b) = (¬ AsksOneUse joints a) × (¬ AsksOneUse joints b)
-OneUseMayStand joints node = Unit {0}
+abbrev pub OuterMayStand : List Joint → Joint → Type 0
+OuterMayStand joints (Turns a) = ¬ HasOuter joints a
+OuterMayStand joints (Both a b) = HasOuter joints b → slice_get joints b ≡ Some Outer
+OuterMayStand joints (Either a b) = (¬ HasOuter joints a) × (¬ HasOuter joints b)
+OuterMayStand joints node = Unit {0}
 
 -- each node keeps to that, so `hasOneUse` stands as a member of the outermost `&&` alone
-abbrev pub OneUseIsOutermost : List Joint → Type 0
-OneUseIsOutermost joints = (n : ℕ) (node : Joint) → slice_get joints n ≡ Some node → OneUseMayStand joints node
+abbrev pub OuterIsOutermost : List Joint → Type 0
+OuterIsOutermost joints = (n : ℕ) (node : Joint) → slice_get joints n ≡ Some node → OuterMayStand joints node

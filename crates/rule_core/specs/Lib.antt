@@ -7,6 +7,7 @@ pub mod FormulaNodes
 pub mod TermNodes
 pub mod Terms
 pub mod Run
+pub mod Facts
 pub mod Typing
 pub mod Valid
 pub mod Laws

@@ -22,7 +22,7 @@ use Rattle.rule_core.specs.declared.rule.Term.{Term}
 use Rattle.rule_core.specs.declared.rule.Node.{Node}
 use Rattle.rule_core.specs.declared.rule.Node.TheVariants as nodes
 use Rattle.rule_core.specs.declared.rule.Function.{Function}
-use Rattle.rule_core.specs.declared.rule.Formula.TheVariants.{Compare as CompareTerms}
+use Rattle.rule_core.specs.declared.rule.Formula.TheVariants.{Compare as CompareTerms, MaskedValueIsZero}
 use Rattle.rule_core.specs.declared.rule.Register.TheVariants as registers
 
 -- the operands from left to right
@@ -143,6 +143,8 @@ pub data Line (rule : Rule) : ℕ → ℕ → Type 0 where
   operand : {o : Operand} {n : ℕ} {t : Term} → Contains (operands_in rule) o → o.value ≡ arguments.Term n → slice_get rule.terms n ≡ Some t → Line rule o.class t.class
   -- both sides of a comparison in the precondition
   compared_terms : {pred : Pred} {a b : ℕ} {x y : Term} → Contains rule.precondition (CompareTerms pred a b) → slice_get rule.terms a ≡ Some x → slice_get rule.terms b ≡ Some y → Line rule x.class y.class
+  -- a term and the register that has none of its bits
+  masked : {r : Register} {a c : ℕ} {t : Term} → Contains rule.precondition (MaskedValueIsZero r a) → slice_get rule.terms a ≡ Some t → Names rule (names.Register r) c → Line rule t.class c
   -- an expression of `Wit:` and the choice of the source that it makes
   witness : {k c n : ℕ} {t : Term} → LeavesOpen rule.source k c → slice_get rule.witnesses k ≡ Some n → slice_get rule.witness_terms n ≡ Some t → Line rule c t.class
 

@@ -11,6 +11,7 @@ use Rattle.rule_core.specs.declared.rule.Rule.{Rule}
 use Rattle.rule_core.specs.declared.rule.Register.TheVariants as registers
 use Rattle.rule_core.specs.declared.rule.Name.TheVariants as names
 use Rattle.rule_core.specs.Positions.{Names, LeavesOpen, choices_among}
+use Rattle.rule_core.specs.Facts.{KeepsFacts}
 use Rattle.rule_core.specs.Terms.{Meanings, number_or_zero, value_at, values_of, PreconditionHolds}
 use Rattle.rule_core.specs.Run.{Held, Holds, value_of, SourceGives, TargetGives, TemporariesEnd}
 
@@ -79,6 +80,7 @@ pub record HaveEffects (rule : Rule) (typing : List ℕ) (setting : Setting) (ch
 pub record SettingCounts (rule : Rule) (typing : List ℕ) (setting : Setting) : Type 0 where
   pub fits : SettingFits rule typing setting
   pub precondition : PreconditionHolds rule typing setting.constants
+  pub facts : KeepsFacts rule typing setting.constants setting.inputs
 
 -- the rule is valid at the typing: at all settings that count, the source's effect allows the target's
 abbrev pub IsValid : Rule → List ℕ → Type 0

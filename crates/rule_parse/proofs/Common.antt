@@ -51,7 +51,7 @@ unfoldable pub use Rattle.rule_terms.specs.Chains.{chain_of}
 pub use Rattle.rule_terms.specs.Chains.{next_is}
 pub use Rattle.rule_terms.specs.FormulaKeywords.{comparison_mark}
 pub use Rattle.rule_terms.specs.FormulaReaders.{formula_at}
-pub use Rattle.rule_terms.specs.Formulas.{Level, SpellsFormula, Standing, compares, either, encloses, member, members, one_use, tests, turns}
+pub use Rattle.rule_terms.specs.Formulas.{Level, SpellsFormula, Standing, compares, either, encloses, masked, member, members, non_zero, one_use, tests, turns}
 pub use Rattle.rule_terms.specs.Grammar.{EndsTerm, SpellsLeaf, SpellsTerm, SpellsWholeTerm, called, joined, last_place, leaf, parenthesised, prefixed, tighter, width}
 unfoldable pub use Rattle.rule_terms.specs.Keywords.{operator_in}
 pub use Rattle.rule_terms.specs.Keywords.{IsCalled, IsChoice, IsPrefix, operator_mark}
@@ -75,9 +75,10 @@ pub use Rattle.rule_tokens.specs.Parts.{Comma, Is, Maybe, ◌⨾◌}
 pub use Rattle.rule_tokens.specs.RuleFaults.{RuleError, RuleFault}
 pub use Rattle.rule_tokens.specs.SeenTokens.{seen, seen_token}
 pub use Rattle.rule_tokens.specs.Steps.{◌>>=◌}
-pub use Rattle.rule_tokens.specs.Tokens.{AreTokens, Arrow, Head, Line, Mark, Name, Number, Register, Token, Word}
+pub use Rattle.rule_tokens.specs.Tokens.{AreTokens, Arrow, Fact, Head, Line, Mark, Name, Number, Register, Token, Word}
 pub use Rattle.rule_tokens.specs.TypeTokens.{SpellsType}
 pub use Rattle.rule_tokens.specs.Versions.{version_in}
+pub use Rattle.rule_tokens.specs.declared.fact.BitFact.{BitFact}
 pub use Rattle.rule_tokens.specs.declared.fault.RuleFaultKind.TheVariants.{Syntax, TooMany}
 pub use Rattle.rule_tokens.specs.declared.version.Version.{Version}
 pub use Rattle.rule_tokens.specs.declared.version.Version.TheVariants.{One, Two}

@@ -1,6 +1,6 @@
 -- From tokens with the limit back to the text's: those in front of `Excess` are the text's own, and those that count
 -- use up the room.
-use Rattle.rule_parse.proofs.Common.{◌≡◌, ℕ, zero, suc, ◌+◌, ◌≤◌, Bool, true, false, not, List, [], ◌∷◌, ◌++◌, Option, Some, None, refl, sym, ap, subst, ◌∙◌, append_assoc, arith, codes, if◌then◌else◌, is_among, Token, Line, Head, Register, Word, Number, Arrow, Mark, is_node_word, plain_marks, ends_before_line, one_less, room_behind, or_excess, limited_to}
+use Rattle.rule_parse.proofs.Common.{◌≡◌, ℕ, zero, suc, ◌+◌, ◌≤◌, Bool, true, false, not, List, [], ◌∷◌, ◌++◌, Option, Some, None, refl, sym, ap, subst, ◌∙◌, append_assoc, arith, codes, if◌then◌else◌, is_among, BitFact, Token, Line, Head, Register, Word, Fact, Number, Arrow, Mark, is_node_word, plain_marks, ends_before_line, one_less, room_behind, or_excess, limited_to}
 use Rattle.rule_tokens.specs.Tokens.{Opcode, Excess}
 
 -- ---- tokens of texts
@@ -128,6 +128,9 @@ word text = one 0 (Word text) tt refl (λ room left e. maybe_counted (is_node_wo
 
 pub opcode : (text : List ℕ) → Weighs 0 (Opcode text ∷ [])
 opcode text = one 0 (Opcode text) tt refl (λ room left e. maybe_counted false room left e)
+
+pub fact : (is : BitFact) → Weighs 1 (Fact is ∷ [])
+fact is = one 1 (Fact is) tt refl (λ room left e. counted room left e)
 
 pub mark : (text : List ℕ) → Weighs 0 (Mark text ∷ [])
 mark text = one 0 (Mark text) tt refl (λ room left e. maybe_counted (not (is_among plain_marks text)) room left e)

@@ -1,13 +1,14 @@
 -- Terms and formulas have no more nodes and names than tokens that count.
-use Rattle.rule_parse.proofs.Common.{◌≡◌, ℕ, ◌+◌, true, false, List, [], ◌∷◌, ◌++◌, length, refl, ◌⊎◌, inl, inr, arith, IsTrue, codes, sum_by, flat_map, sum_by-cons, sum_by-append, Pred, Function, Negate, Not, Log2, is_among, is_constant, is_choice, ends_primary, Token, Register, Word, Mark, TermPlace, RawNode, RawFormula, last_place, SpellsLeaf, SpellsTerm, leaf, width, parenthesised, called, prefixed, tighter, joined, Standing, Level, SpellsFormula, compares, tests, one_use, turns, encloses, member, members, either, comparison_mark, predicates, operator_mark, IsPrefix, IsCalled, IsChoice, terms_of_formula, is_node_word, plain_marks, node_weight, formula_weight, Limits}
+use Rattle.rule_parse.proofs.Common.{◌≡◌, ℕ, ◌+◌, true, false, List, [], ◌∷◌, ◌++◌, length, refl, ◌⊎◌, inl, inr, arith, IsTrue, codes, sum_by, flat_map, sum_by-cons, sum_by-append, Pred, Function, Negate, Not, Log2, is_among, is_constant, is_choice, ends_primary, Token, Register, Word, Fact, Mark, TermPlace, RawNode, RawFormula, last_place, SpellsLeaf, SpellsTerm, leaf, width, parenthesised, called, prefixed, tighter, joined, Standing, Level, SpellsFormula, compares, tests, one_use, masked, non_zero, turns, encloses, member, members, either, comparison_mark, predicates, operator_mark, IsPrefix, IsCalled, IsChoice, terms_of_formula, is_node_word, plain_marks, node_weight, formula_weight, Limits}
 use Rattle.ops.specs.declared.opcode.Opcode.{Opcode}
 use Rattle.ops.specs.declared.opcode.Opcode.TheVariants as opcodes
 use Rattle.ops.specs.declared.comparison.Pred.TheVariants as preds
 use Rattle.rule_core.specs.declared.rule.Function.TheVariants.{Abs}
+use Rattle.rule_tokens.specs.declared.fact.BitFact.TheVariants as facts
 use Rattle.rule_terms.specs.declared.raw.RawNode.TheVariants as nodes
 use Rattle.rule_terms.specs.declared.raw.RawFormula.TheVariants as formulas
 use Rattle.rule_terms.specs.Formulas.{both}
-use Rattle.rule_parse.proofs.Cuts.{Weighs, join, at_least, word, number, register, node_word, operator, enclosed}
+use Rattle.rule_parse.proofs.Cuts.{Weighs, join, at_least, light, word, fact, mark, number, register, node_word, operator, enclosed}
 
 module _ (limits : Limits) where
   -- ---- words and marks that are counted
@@ -122,6 +123,8 @@ module _ (limits : Limits) where
   whole_weight (formulas.IsPowerOfTwo a) = 1 + nodes_weight a
   whole_weight (formulas.IsSignBit a) = 1 + nodes_weight a
   whole_weight (formulas.HasOneUse name) = 2
+  whole_weight (formulas.MaskedValueIsZero name a) = 2 + nodes_weight a
+  whole_weight (formulas.IsKnownNonZero name) = 2
   whole_weight node = 1
 
   abbrev pub formulas_weight : List RawFormula → ℕ
@@ -146,12 +149,22 @@ module _ (limits : Limits) where
   tests_weigh text node term tokens (inl (t, n)) inside = rw (t, n) (at_least _ (1 + nodes_weight term) _ (omega arith) (called_weighs (nodes_weight term) (codes "isPowerOf2") tokens is_power_counts inside))
   tests_weigh text node term tokens (inr (t, n)) inside = rw (t, n) (at_least _ (1 + nodes_weight term) _ (omega arith) (called_weighs (nodes_weight term) (codes "isSignBit") tokens is_sign_counts inside))
 
+  -- a register and a mask
+  masks_weigh : (name : List ℕ) (w : ℕ) (own : List Token) → Weighs w own → Weighs (1 + w) (Register name ∷ Mark (codes ",") ∷ own)
+  masks_weigh name w own inside = join 1 w (Register name ∷ []) (Mark (codes ",") ∷ own) (register name) (light w (Mark (codes ",") ∷ []) own (mark (codes ",")) inside)
+
   pub formula_weighs : {standing : Standing} {level : Level} {nesting start : ℕ} {own : List RawFormula} {tokens : List Token} → SpellsFormula limits standing level nesting start own tokens → Weighs (formulas_weight own) tokens
   formula_weighs (compares {left = left} {right = right} {front = front} {back = back} pred a b) =
       at_least _ (nodes_weight left + (1 + nodes_weight right)) _ (omega arith)
       (middle_weighs (nodes_weight left) (nodes_weight right) (comparison_mark pred) front back (comparison_counts pred) (term_weighs a) (term_weighs b))
   formula_weighs (tests {term = term} {own = tokens} predicate inside) = tests_weigh _ _ term tokens (predicates predicate term) (term_weighs inside)
   formula_weighs (one_use {name = name} le) = called_weighs 1 (codes "hasOneUse") (Register name ∷ []) one_use_counts (register name)
+  formula_weighs (masked {name = name} {term = term} {own = own} le inside) =
+      at_least _ (1 + (1 + nodes_weight term)) _ (omega arith)
+      (join 1 (1 + nodes_weight term) (Fact facts.MaskedValueIsZero ∷ []) (Mark (codes "(") ∷ (Register name ∷ Mark (codes ",") ∷ own) ++ Mark (codes ")") ∷ []) (fact facts.MaskedValueIsZero)
+      (enclosed (1 + nodes_weight term) (Register name ∷ Mark (codes ",") ∷ own) (masks_weigh name (nodes_weight term) own (term_weighs inside))))
+  formula_weighs (non_zero {name = name} le) =
+      join 1 1 (Fact facts.IsKnownNonZero ∷ []) (Mark (codes "(") ∷ Register name ∷ Mark (codes ")") ∷ []) (fact facts.IsKnownNonZero) (enclosed 1 (Register name ∷ []) (register name))
   formula_weighs (turns {start = start} {nodes = own} {own = tokens} inside) =
       at_least _ (1 + formulas_weight own) _ (omega (arith, formulas_append own (formulas.Not (last_place (start + length own)) ∷ [])))
       (join 1 (formulas_weight own) (Mark (codes "!") ∷ []) tokens (operator (codes "!") refl) (formula_weighs inside))
@@ -173,6 +186,8 @@ module _ (limits : Limits) where
   own_terms (formulas.IsPowerOfTwo a) = omega (arith, nodes_weight-is a)
   own_terms (formulas.IsSignBit a) = omega (arith, nodes_weight-is a)
   own_terms (formulas.HasOneUse name) = refl
+  own_terms (formulas.MaskedValueIsZero name a) = omega (arith, nodes_weight-is a)
+  own_terms (formulas.IsKnownNonZero name) = refl
   own_terms (formulas.Not a) = refl
   own_terms (formulas.And a b) = refl
   own_terms (formulas.Or a b) = refl

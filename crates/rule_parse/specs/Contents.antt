@@ -43,6 +43,7 @@ abbrev pub terms_of_formula : RawFormula → List (List RawNode)
 terms_of_formula (raw_formulas.Compare pred a b) = a ∷ b ∷ []
 terms_of_formula (raw_formulas.IsPowerOfTwo a) = a ∷ []
 terms_of_formula (raw_formulas.IsSignBit a) = a ∷ []
+terms_of_formula (raw_formulas.MaskedValueIsZero name a) = a ∷ []
 terms_of_formula formula = []
 
 -- the terms of the target

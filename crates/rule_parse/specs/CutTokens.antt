@@ -5,7 +5,7 @@ use Rattle.std.specs.Str.{bytes_eq}
 use Rattle.scan.specs.RuleTokens.{is_among, ends_primary}
 use Rattle.scan.specs.declared.rule_token.RuleKind.TheVariants as kinds
 use Rattle.rule_parse.specs.Limits.{most_nodes}
-use Rattle.rule_tokens.specs.Tokens.{Token, Line, Head, Register, Word, Number, Mark, Excess}
+use Rattle.rule_tokens.specs.Tokens.{Token, Line, Head, Register, Word, Fact, Number, Mark, Excess}
 
 -- words that are operands, functions or predicates of `Pre:`
 abbrev pub node_words : List (List ℕ)
@@ -26,6 +26,7 @@ abbrev pub is_counted : Bool → Token → Bool
 is_counted begins (Register name) = not begins
 is_counted begins (Number text) = true
 is_counted begins (Word word) = is_node_word word
+is_counted begins (Fact fact) = true
 is_counted begins (Mark mark) = not (is_among plain_marks mark)
 is_counted begins token = false
 

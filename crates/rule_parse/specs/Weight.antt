@@ -21,6 +21,8 @@ node_weight node = 1
 
 abbrev pub formula_weight : RawFormula → ℕ
 formula_weight (raw_formulas.HasOneUse name) = 2
+formula_weight (raw_formulas.MaskedValueIsZero name a) = 2
+formula_weight (raw_formulas.IsKnownNonZero name) = 2
 formula_weight formula = 1
 
 -- the count of a whole rule

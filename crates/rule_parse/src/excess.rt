@@ -41,7 +41,7 @@ fn is_counted(begins: bool, token: &Token<'_>) -> bool
 {
     match token {
         Token::Register(_) => !begins,
-        Token::Number(_) => true,
+        Token::Number(_) | Token::Fact(_) => true,
         Token::Word(word) => is_node_word(word),
         Token::Mark(mark) => !is_among(mark, &["=", ",", "(", ")"]),
         _ => false,

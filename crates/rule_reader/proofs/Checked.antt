@@ -1,5 +1,5 @@
 -- A rule that a rule as written without faults means is an `IsRule`.
-use Rattle.rule_reader.proofs.Common.{◌≡◌, inl, inr, ℕ, zero, suc, ◌+◌, ◌-◌, ◌<◌, ◌≤◌, Bool, List, [], ◌∷◌, ◌++◌, append_assoc, length, Some, refl, sym, ap, subst, ◌∙◌, arith, get_or, slice_get, Contains, map, flat_map, range_with_len, length-map, Contains-append_left, slice_get_within, slice_get-get_or, same_Some, length-range_with_len, flat_map-append, Flags, Cast, FlagsFit, CastFlagsFit, TruthFits, RawRule, RawStatement, RawOp, RawArgument, RawNode, RawFormula, Rule, Statement, Op, Operand, Argument, Node, Formula, Turns, Both, Either, joint_of, OneUseIsOutermost, AreLastNodes, IsRule, SourceMayRead, TargetMayRead, TargetMayMeasure, MeasuresBeforeRoot, FormulaMayMeasure, HasKnownWidth, IsBeforeRoot, MayBeTerm, MayBeWitness, MayBeFormula, ReadsNoUndefAlone, ChoicesInOrder, names_of, operands_among, choices_among, Contains-from_get, Contains-flat_map, Counts, Names, arguments_of, arguments_among, formula_of, expressions_of, target_terms, terms_of, terms_of_argument, terms_of_formula, nodes_in, past, past_all, counted_of, counted_among, no_counts, in_half, with_counts, with_nodes, with_terms, last_nodes, UsesAt, IsRoot, AssignsAt, IsInput, ArgumentMeans, OpMeans, StatementMeans, NodeMeans, FormulaMeans, HasName, HalfMeans, TermsMean, Means, names_of_rule, IsBehindOperands, IsHalf, IsTerm, IsWellFormed, IsBehindFormulas, MayStandInTerm, MayStandInSource, raw_joint, MayUse, NodeIsBound, TermIsBound, ArgumentIsBound, FormulaIsBound, RootMissingAt, UnusedTempAt, UndefInsideAt, WitnessCountAt, IsFreeze, LeavesOpen, ReadsUndefAlone, NamesAreThere}
+use Rattle.rule_reader.proofs.Common.{◌≡◌, inl, inr, ℕ, zero, suc, ◌+◌, ◌-◌, ◌<◌, ◌≤◌, Bool, List, [], ◌∷◌, ◌++◌, append_assoc, length, Some, refl, sym, ap, subst, ◌∙◌, arith, get_or, slice_get, Contains, map, flat_map, range_with_len, length-map, Contains-append_left, slice_get_within, slice_get-get_or, same_Some, length-range_with_len, flat_map-append, Flags, Cast, FlagsFit, CastFlagsFit, TruthFits, RawRule, RawStatement, RawOp, RawArgument, RawNode, RawFormula, Rule, Statement, Op, Operand, Argument, Node, Formula, Turns, Both, Either, joint_of, OuterIsOutermost, AreLastNodes, IsRule, SourceMayRead, TargetMayRead, TargetMayMeasure, MeasuresBeforeRoot, FormulaMayMeasure, HasKnownWidth, IsBeforeRoot, MayBeTerm, MayBeWitness, MayBeFormula, ReadsNoUndefAlone, ChoicesInOrder, names_of, operands_among, choices_among, Contains-from_get, Contains-flat_map, Counts, Names, arguments_of, arguments_among, formula_of, expressions_of, target_terms, terms_of, terms_of_argument, terms_of_formula, nodes_in, past, past_all, counted_of, counted_among, no_counts, in_half, with_counts, with_nodes, with_terms, last_nodes, UsesAt, IsRoot, AssignsAt, IsInput, ArgumentMeans, OpMeans, StatementMeans, NodeMeans, FormulaMeans, HasName, HalfMeans, TermsMean, Means, names_of_rule, IsBehindOperands, IsHalf, IsTerm, IsWellFormed, IsBehindFormulas, MayStandInTerm, MayStandInSource, raw_joint, MayUse, NodeIsBound, TermIsBound, ArgumentIsBound, FormulaIsBound, RootMissingAt, UnusedTempAt, UndefInsideAt, WitnessCountAt, IsFreeze, LeavesOpen, ReadsUndefAlone, NamesAreThere}
 use Rattle.ops.specs.declared.opcode.Opcode.{Opcode}
 use Rattle.ops.specs.declared.opcode.Unary.{Unary as Intrinsic}
 use Rattle.rule_parse.specs.declared.raw.RawOp.TheVariants as raw_ops
@@ -389,6 +389,8 @@ module _ (raw : RawRule) (rule : Rule) (well : IsWellFormed raw) (bound : IsBoun
   may_be_formula n b (raw_formulas.HasOneUse name) (formulas.HasOneUse k) is (behind) named few =
       let e : named.0 ≡ k = one_place raw.source bound.plain.source_once named.0 k name named.2 is in
       let lt : suc named.0 < length raw.source = named.1 in omega (arith, source_length)
+  may_be_formula n b (raw_formulas.MaskedValueIsZero name u) (formulas.MaskedValueIsZero r x) is behind named few = (before_root name r named.0 is.0, omega (arith, is.1))
+  may_be_formula n b (raw_formulas.IsKnownNonZero name) (formulas.IsKnownNonZero r) is behind named few = before_root name r named is
   may_be_formula n b (raw_formulas.Not a) (formulas.Not x) is behind named few = omega arith
   may_be_formula n b (raw_formulas.And a c) (formulas.And x y) is behind named few = (omega (arith, is.0, behind.0), omega (arith, is.1, behind.1))
   may_be_formula n b (raw_formulas.Or a c) (formulas.Or x y) is behind named few = (omega (arith, is.0, behind.0), omega (arith, is.1, behind.1))
@@ -402,13 +404,15 @@ module _ (raw : RawRule) (rule : Rule) (well : IsWellFormed raw) (bound : IsBoun
       may_be_formula n x.0 x.1 f is (well.formula n x.1 spot) (each_at (FormulaIsBound raw) (formula_of raw) n x.1 bound.there.precondition spot)
       (omega (arith, formula_within start (formula_of raw) n x at', terms_long, nodes_append (target_terms raw) (flat_map terms_of_formula (formula_of raw))))
 
-  -- ---- `hasOneUse`
+  -- ---- members of the outermost `&&` alone
 
   joint_means : (b : ℕ) (w : RawFormula) (f : Formula) → FormulaMeans raw own b w f → joint_of f ≡ raw_joint w
   joint_means b (raw_formulas.Compare pred u v) (formulas.Compare pred' x y) is = refl
   joint_means b (raw_formulas.IsPowerOfTwo u) (formulas.IsPowerOfTwo x) is = refl
   joint_means b (raw_formulas.IsSignBit u) (formulas.IsSignBit x) is = refl
   joint_means b (raw_formulas.HasOneUse name) (formulas.HasOneUse k) is = refl
+  joint_means b (raw_formulas.MaskedValueIsZero name u) (formulas.MaskedValueIsZero r x) is = refl
+  joint_means b (raw_formulas.IsKnownNonZero name) (formulas.IsKnownNonZero r) is = refl
   joint_means b (raw_formulas.Not a) (formulas.Not x) is = ap (λ n. Turns n) is
   joint_means b (raw_formulas.And a c) (formulas.And x y) is = ap (λ n. Both n y) is.0 ∙ ap (λ n. Both a n) is.1
   joint_means b (raw_formulas.Or a c) (formulas.Or x y) is = ap (λ n. Either n y) is.0 ∙ ap (λ n. Either a n) is.1
@@ -421,8 +425,8 @@ module _ (raw : RawRule) (rule : Rule) (well : IsWellFormed raw) (bound : IsBoun
   joints_mean n (f ∷ fs) (g ∷ gs) all =
       ap (λ x. x ∷ map joint_of gs) (joint_means n f g all.0) ∙ ap (λ l. raw_joint f ∷ l) (joints_mean (n + nodes_in (terms_of_formula f)) fs gs all.1)
 
-  one_use : OneUseIsOutermost (map joint_of rule.precondition)
-  one_use = subst OneUseIsOutermost (sym (joints_mean (nodes_in (target_terms raw)) (formula_of raw) rule.precondition means.precondition)) well.one_use
+  outer : OuterIsOutermost (map joint_of rule.precondition)
+  outer = subst OuterIsOutermost (sym (joints_mean (nodes_in (target_terms raw)) (formula_of raw) rule.precondition means.precondition)) well.outer
 
   -- ---- widths
 
@@ -487,9 +491,11 @@ module _ (raw : RawRule) (rule : Rule) (well : IsWellFormed raw) (bound : IsBoun
   )
   formula_measures b (raw_formulas.IsPowerOfTwo u) (formulas.IsPowerOfTwo x) before behind is there all count = formula_term x u before behind all (omega (arith, is, count)) there
   formula_measures b (raw_formulas.IsSignBit u) (formulas.IsSignBit x) before behind is there all count = formula_term x u before behind all (omega (arith, is, count)) there
+  formula_measures b (raw_formulas.MaskedValueIsZero name u) (formulas.MaskedValueIsZero y x) before behind is there all count = formula_term x u before behind all (omega (arith, is.1, count)) there.1
   formula_measures b w (formulas.Compare pred' x y) before behind is there all count = absurd is
   formula_measures b w (formulas.IsPowerOfTwo x) before behind is there all count = absurd is
   formula_measures b w (formulas.IsSignBit x) before behind is there all count = absurd is
+  formula_measures b w (formulas.MaskedValueIsZero y x) before behind is there all count = absurd is
   formula_measures b w f before behind is there all count = tt
 
   precondition_widths : (n : ℕ) (f : Formula) → slice_get rule.precondition n ≡ Some f → FormulaMayMeasure rule f
@@ -598,7 +604,7 @@ module _ (raw : RawRule) (rule : Rule) (well : IsWellFormed raw) (bound : IsBoun
             let mine : AssignsAt raw.source j s.name = source_at j s.name (map_at (λ (s : Statement). s.name) rule.source j s at) in
             not_redefined raw own bound.plain means.names k s.name (target_at k s.name at') (inr (j, (subst (λ n. suc j < n) source_length before), mine));
         temporaries_read = temporaries_read;
-        one_use = one_use;
+        outer = outer;
         source_ops = λ k s at. let (b, w, at', goes) = written raw.source rule.source k s means.source at in in_source raw own rule k b w.op s.op goes.1 (well.source_ops k w at') (λ freeze. at_root k w at' (inr freeze));
         source_flags = λ k s at. let (b, w, at', goes) = written raw.source rule.source k s means.source at in fits raw own b w.op s.op goes.1 (well.source.flags_fit k w at');
         target_flags = λ k s at. let (b, w, at', goes) = written raw.target rule.target k s means.target at in fits raw own b w.op s.op goes.1 (well.target.flags_fit k w at');

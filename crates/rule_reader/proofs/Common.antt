@@ -9,7 +9,7 @@ pub use Rattle.refusal.specs.Refusals.{IfRefused}
 pub use Rattle.refusal.specs.declared.refusal.Refusal.TheVariants.{NoMemory, Refused}
 pub use Rattle.rule_core.proofs.Members.{Contains-flat_map, Contains-from_get, get-append_left}
 pub use Rattle.rule_core.specs.Checks.{AreDistinct, ChoicesInOrder, FormulaMayMeasure, HasKnownWidth, IsBeforeRoot, IsRule, MayBeFormula, MayBeTerm, MayBeWitness, MeasuresBeforeRoot, ReadsNoUndefAlone, SourceMayRead, TargetMayMeasure, TargetMayRead, names_of, term_weight, weight_of}
-pub use Rattle.rule_core.specs.FormulaNodes.{AsksOneUse, Both, Either, IsPartOf, Joint, OneUse, OneUseIsOutermost, OneUseMayStand, Single, Turns, joint_of, part}
+pub use Rattle.rule_core.specs.FormulaNodes.{Both, Either, HasOuter, IsPartOf, Joint, Outer, OuterIsOutermost, OuterMayStand, Single, Turns, joint_of, part}
 pub use Rattle.rule_core.specs.Positions.{choices_among, choices_of, classes_of, classes_of_node, classes_of_statement, classes_of_term, frozen_in, operands_among, operands_in, undef_in}
 pub use Rattle.rule_core.specs.TermNodes.{AreLastNodes, IsOperandOf, NamesWidth, OwnsOperands, StandsIn, operand}
 pub use Rattle.rule_core.specs.declared.rule.Argument.{Argument}
@@ -51,18 +51,20 @@ pub use Rattle.rule_reader.specs.declared.names.Names.{Names}
 pub use Rattle.rule_reader.specs.declared.place.Half.{Half}
 pub use Rattle.rule_reader.specs.declared.place.UseSite.{UseSite}
 pub use Rattle.rule_terms.proofs.Predicates.{predicates}
-pub use Rattle.rule_terms.specs.Formulas.{Level, Member, Outermost, SpellsFormula, Standing, Within, both, compares, either, encloses, member, members, tests, turns}
+pub use Rattle.rule_terms.specs.Formulas.{Level, Member, Outermost, SpellsFormula, Standing, Within, both, compares, either, encloses, masked, member, members, non_zero, tests, turns}
 pub use Rattle.rule_terms.specs.Grammar.{SpellsTerm, SpellsWholeTerm, called, joined, last_place, leaf, parenthesised, prefixed, tighter, width}
 pub use Rattle.rule_terms.specs.Nodes.{IsBehindOperands}
 pub use Rattle.rule_terms.specs.declared.place.TermPlace.{TermPlace}
 pub use Rattle.rule_terms.specs.declared.raw.RawFormula.{RawFormula}
 pub use Rattle.rule_terms.specs.declared.raw.RawNode.{RawNode}
 pub use Rattle.rule_tokens.specs.Contexts.{at_start, is_opcode}
+pub use Rattle.rule_tokens.specs.Facts.{fact_in}
 pub use Rattle.rule_tokens.specs.Limits.{rule_limits}
 pub use Rattle.rule_tokens.specs.Parts.{Maybe, Part}
 pub use Rattle.rule_tokens.specs.RuleFaults.{RuleError, RuleFault}
-pub use Rattle.rule_tokens.specs.Tokens.{Arrow, AtToken, Bad, Excess, Head, Line, Mark, Name, Number, Other, Place, Token, TokensFrom, Word, bad_name, bad_token, bytes_at, ends, is_called, token, token_at, token_of, word_of}
+pub use Rattle.rule_tokens.specs.Tokens.{Arrow, AtToken, Bad, Excess, Fact, Head, Line, Mark, Name, Number, Other, Place, Token, TokensFrom, Word, bad_name, bad_token, bytes_at, ends, is_called, token, token_at, token_of, word_of}
 pub use Rattle.rule_tokens.specs.declared.context.Context.{Context}
+pub use Rattle.rule_tokens.specs.declared.fact.BitFact.{BitFact}
 pub use Rattle.rule_tokens.specs.declared.version.Version.{Version}
 pub use Rattle.rule_typing.proofs.Deciding.{dec_both, dec_either, dec_not, dec_number, dec_one, dec_place, stable}
 pub use Rattle.rule_typing.specs.Classes.{IsClassified, Joined, SameClass}

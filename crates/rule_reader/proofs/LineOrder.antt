@@ -1,5 +1,5 @@
 -- The parts of a rule stand on lines in their order.
-use Rattle.rule_reader.proofs.Common.{◌≡◌, ℕ, zero, suc, ◌+◌, ◌<◌, ◌≤◌, Bool, true, false, cond, eqb, List, [], ◌∷◌, ◌++◌, length, append_assoc, take, Option, Some, None, refl, sym, ap, subst, ◌∙◌, arith, slice_get, codes, same_Some, take-take, sum_by-take-drop, RuleKind, line_of, rest_of_line, line_at, RawStatement, SpellsStatements, Part, Maybe, Context, is_opcode, Token, Line, Head, Name, Word, Number, Arrow, Mark, Other, Bad, Excess, word_of, token_of, token_at, is_called, bytes_at, Place, TokensFrom, ends, token, bad_token, bad_name, AreInLineOrder, Version, rule_limits}
+use Rattle.rule_reader.proofs.Common.{◌≡◌, ℕ, zero, suc, ◌+◌, ◌<◌, ◌≤◌, Bool, true, false, cond, eqb, List, [], ◌∷◌, ◌++◌, length, append_assoc, take, Option, Some, None, refl, sym, ap, subst, ◌∙◌, arith, slice_get, codes, same_Some, take-take, sum_by-take-drop, RuleKind, line_of, rest_of_line, line_at, RawStatement, SpellsStatements, Part, Maybe, Context, BitFact, is_opcode, fact_in, Token, Line, Head, Name, Word, Fact, Number, Arrow, Mark, Other, Bad, Excess, word_of, token_of, token_at, is_called, bytes_at, Place, TokensFrom, ends, token, bad_token, bad_name, AreInLineOrder, Version, rule_limits}
 use Rattle.std.specs.List.{sum_by}
 use Rattle.scan.specs.declared.rule_token.RuleKind.TheVariants as kinds
 use Rattle.rule_tokens.specs.Tokens.{Register, Opcode, name as at_name}
@@ -13,6 +13,7 @@ Ascend low (Name text ∷ tokens) = Ascend low tokens
 Ascend low (Register text ∷ tokens) = Ascend low tokens
 Ascend low (Word text ∷ tokens) = Ascend low tokens
 Ascend low (Opcode text ∷ tokens) = Ascend low tokens
+Ascend low (Fact fact ∷ tokens) = Ascend low tokens
 Ascend low (Number text ∷ tokens) = Ascend low tokens
 Ascend low (Arrow ∷ tokens) = Ascend low tokens
 Ascend low (Mark text ∷ tokens) = Ascend low tokens
@@ -29,6 +30,7 @@ lower low high (Name text ∷ tokens) le up = lower low high tokens le up
 lower low high (Register text ∷ tokens) le up = lower low high tokens le up
 lower low high (Word text ∷ tokens) le up = lower low high tokens le up
 lower low high (Opcode text ∷ tokens) le up = lower low high tokens le up
+lower low high (Fact fact ∷ tokens) le up = lower low high tokens le up
 lower low high (Number text ∷ tokens) le up = lower low high tokens le up
 lower low high (Arrow ∷ tokens) le up = lower low high tokens le up
 lower low high (Mark text ∷ tokens) le up = lower low high tokens le up
@@ -46,6 +48,7 @@ skip low (Name text ∷ xs) ys up = skip low xs ys up
 skip low (Register text ∷ xs) ys up = skip low xs ys up
 skip low (Word text ∷ xs) ys up = skip low xs ys up
 skip low (Opcode text ∷ xs) ys up = skip low xs ys up
+skip low (Fact fact ∷ xs) ys up = skip low xs ys up
 skip low (Number text ∷ xs) ys up = skip low xs ys up
 skip low (Arrow ∷ xs) ys up = skip low xs ys up
 skip low (Mark text ∷ xs) ys up = skip low xs ys up
@@ -62,10 +65,11 @@ line_more text m n le =
     omega (arith, parts, same)
 
 -- a token of this kind is no line's number
-no_word_line : (opcode : Bool) (bytes : List ℕ) (low : ℕ) (tokens : List Token) → Ascend low tokens → Ascend low (word_of opcode bytes ∷ tokens)
+no_word_line : (fact : Option BitFact) (opcode : Bool) (bytes : List ℕ) (low : ℕ) (tokens : List Token) → Ascend low tokens → Ascend low (word_of fact opcode bytes ∷ tokens)
 unfolding Ascend
-no_word_line true bytes low tokens up = up
-no_word_line false bytes low tokens up = up
+no_word_line (Some fact) opcode bytes low tokens up = up
+no_word_line None true bytes low tokens up = up
+no_word_line None false bytes low tokens up = up
 
 no_line : (c : Context) (called : Bool) (kind : RuleKind) (bytes : List ℕ) (low : ℕ) (tokens : List Token) → Ascend low tokens → Ascend low (token_of c called kind bytes ∷ tokens)
 unfolding Ascend
@@ -73,7 +77,7 @@ no_line c called kinds.End bytes low tokens up = up
 no_line c called kinds.Other bytes low tokens up = up
 no_line c called kinds.Head bytes low tokens up = up
 no_line c called kinds.Register bytes low tokens up = up
-no_line c called kinds.Word bytes low tokens up = no_word_line (is_opcode c called bytes) bytes low tokens up
+no_line c called kinds.Word bytes low tokens up = no_word_line (fact_in c.version bytes) (is_opcode c called bytes) bytes low tokens up
 no_line c called kinds.Number bytes low tokens up = up
 no_line c called kinds.Arrow bytes low tokens up = up
 no_line c called kinds.Mark bytes low tokens up = up

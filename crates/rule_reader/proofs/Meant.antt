@@ -126,6 +126,10 @@ module _ (raw : RawRule) (names : Names) (are : AreNames raw.source names) where
   some_formula b (raw_formulas.IsPowerOfTwo u) bound whole = (formulas.IsPowerOfTwo (b + length u - 1), omega (arith, whole.0.some))
   some_formula b (raw_formulas.IsSignBit u) bound whole = (formulas.IsSignBit (b + length u - 1), omega (arith, whole.0.some))
   some_formula b (raw_formulas.HasOneUse name) bound whole = (formulas.HasOneUse bound.0, bound.2)
+  some_formula b (raw_formulas.MaskedValueIsZero name u) bound whole =
+      let (r, is) = some_register places.Heading name bound.0 in
+      (formulas.MaskedValueIsZero r (b + length u - 1), (is, omega (arith, whole.0.some)))
+  some_formula b (raw_formulas.IsKnownNonZero name) bound whole = let (r, is) = some_register places.Heading name bound in (formulas.IsKnownNonZero r, is)
   some_formula b (raw_formulas.Not a) bound whole = (formulas.Not a, refl)
   some_formula b (raw_formulas.And a c) bound whole = (formulas.And a c, (refl, refl))
   some_formula b (raw_formulas.Or a c) bound whole = (formulas.Or a c, (refl, refl))

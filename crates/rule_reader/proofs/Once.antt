@@ -1,5 +1,5 @@
 -- A rule as written determines its inputs, its constants, and the rule with its classes that it means.
-use Rattle.rule_reader.proofs.Common.{◌≡◌, ◌⊎◌, inl, inr, ℕ, zero, suc, ◌+◌, ◌<◌, List, [], ◌∷◌, ◌++◌, length, length-append, append_assoc, Some, refl, sym, ap, subst, ◌∙◌, arith, slice_get, Contains, map, flat_map, AllZip, slice_get_within, same_Some, length-map, append-nil, flat_map-append, RawRule, RawStatement, RawOp, RawOperand, RawArgument, RawNode, RawFormula, Rule, Statement, Op, Operand, Argument, Node, Formula, classes_of_statement, classes_of_node, classes_of_term, classes_of, Contains-from_get, Joined, SameClass, IsClassified, numbered_op, numbered_statement, numbered_statements, numbered_node, numbered_term, numbered_terms, numbered, Names, Counts, UseSite, arguments_of, terms_of, expressions_of, formula_of, target_terms, terms_of_formula, nodes_in, past, past_all, counted_of, no_counts, with_counts, with_nodes, with_terms, GivenAt, AreFirstGiven, GivesInput, GivesConstant, IsRoot, AreNames, ArgumentMeans, OperandMeans, OpMeans, StatementMeans, NodeMeans, FormulaMeans, HalfMeans, TermsMean, PreconditionMeans, Means, names_of_rule, Each, MayUse, ArgumentIsBound, NodeIsBound, TermIsBound}
+use Rattle.rule_reader.proofs.Common.{◌≡◌, ◌⊎◌, inl, inr, ℕ, zero, suc, ◌+◌, ◌<◌, List, [], ◌∷◌, ◌++◌, length, length-append, append_assoc, Some, refl, sym, ap, subst, ◌∙◌, arith, slice_get, Contains, map, flat_map, AllZip, slice_get_within, same_Some, length-map, append-nil, flat_map-append, RawRule, RawStatement, RawOp, RawOperand, RawArgument, RawNode, RawFormula, Rule, Statement, Op, Operand, Argument, Node, Formula, classes_of_statement, classes_of_node, classes_of_term, classes_of, Contains-from_get, Joined, SameClass, IsClassified, numbered_op, numbered_statement, numbered_statements, numbered_node, numbered_term, numbered_terms, numbered, Names, Counts, UseSite, arguments_of, terms_of, expressions_of, formula_of, target_terms, terms_of_formula, nodes_in, past, past_all, counted_of, no_counts, with_counts, with_nodes, with_terms, GivenAt, AreFirstGiven, GivesInput, GivesConstant, IsRoot, AreNames, ArgumentMeans, OperandMeans, OpMeans, StatementMeans, NodeMeans, FormulaMeans, HalfMeans, TermsMean, PreconditionMeans, Means, names_of_rule, Each, MayUse, ArgumentIsBound, NodeIsBound, TermIsBound, FormulaIsBound}
 use Rattle.rule_parse.specs.declared.raw.RawOp.TheVariants as raw_ops
 use Rattle.rule_parse.specs.declared.raw.RawArgument.TheVariants as raw_arguments
 use Rattle.rule_terms.specs.declared.raw.RawNode.TheVariants as raw_nodes
@@ -12,7 +12,7 @@ use Rattle.rule_core.specs.declared.rule.Formula.TheVariants as formulas
 use Rattle.rule_core.specs.Positions.{operands_of as operands_meant}
 use Rattle.rule_reader.specs.declared.place.UseSite.TheVariants as places
 use Rattle.rule_reader.proofs.Places.{order, somewhere, there}
-use Rattle.rule_reader.proofs.Members.{each_in}
+use Rattle.rule_reader.proofs.Members.{each_in, each_at}
 use Rattle.rule_reader.proofs.Nodes.{node_at}
 use Rattle.rule_reader.proofs.OneRegister.{IsPlain, one_place, one_register, not_root_in_source, not_root_before}
 use Rattle.rule_reader.proofs.There.{term_there}
@@ -89,6 +89,12 @@ Rootless raw w = (name : List ℕ) → w ≡ raw_arguments.Register name → ¬ 
 
 abbrev NodeRootless : RawRule → RawNode → Type 0
 NodeRootless raw w = (name : List ℕ) → (w ≡ raw_nodes.Register name) ⊎ (w ≡ raw_nodes.Width name) → ¬ IsRoot raw.source name
+
+-- and none of whose bits a node of a formula speaks
+abbrev FormulaRootless : RawRule → RawFormula → Type 0
+FormulaRootless raw (raw_formulas.MaskedValueIsZero name a) = ¬ IsRoot raw.source name
+FormulaRootless raw (raw_formulas.IsKnownNonZero name) = ¬ IsRoot raw.source name
+FormulaRootless raw w = Unit {0}
 
 module _ (raw : RawRule) (names : Names) (plain : IsPlain raw) (are : AreNames raw.source names) where
   one_argument : (u : Counts) (w : RawArgument) (a b : Argument) → Rootless raw w → ArgumentMeans raw names u w a → ArgumentMeans raw names u w b → a ≡ b
@@ -221,36 +227,43 @@ module _ (raw : RawRule) (names : Names) (plain : IsPlain raw) (are : AreNames r
       let first : numbered_term n s ≡ numbered_term n t = cc in
       (cc, length-append (classes_of_term s) (flat_map classes_of_term ss) ∙ ap (λ m. m + length (flat_map classes_of_term ss)) long ∙ ap (λ m. length (classes_of_term t) + m) rest_long ∙ sym (length-append (classes_of_term t) (flat_map classes_of_term ts)))
 
-  one_formula : (b : ℕ) (w : RawFormula) (f g : Formula) → FormulaMeans raw names b w f → FormulaMeans raw names b w g → f ≡ g
-  one_formula b (raw_formulas.Compare pred u v) (formulas.Compare o x y) (formulas.Compare o' x' y') p q =
+  one_formula : (b : ℕ) (w : RawFormula) (f g : Formula) → FormulaRootless raw w → FormulaMeans raw names b w f → FormulaMeans raw names b w g → f ≡ g
+  one_formula b (raw_formulas.Compare pred u v) (formulas.Compare o x y) (formulas.Compare o' x' y') free p q =
       let e : o ≡ o' = p.0 ∙ sym q.0 in
       let e' : x ≡ x' = omega (arith, p.1, q.1) in
       let e'' : y ≡ y' = omega (arith, p.2, q.2) in
       cc
-  one_formula b (raw_formulas.IsPowerOfTwo u) (formulas.IsPowerOfTwo x) (formulas.IsPowerOfTwo y) p q = ap (λ m. formulas.IsPowerOfTwo m) (let e : x ≡ y = omega (arith, p, q) in e)
-  one_formula b (raw_formulas.IsSignBit u) (formulas.IsSignBit x) (formulas.IsSignBit y) p q = ap (λ m. formulas.IsSignBit m) (let e : x ≡ y = omega (arith, p, q) in e)
-  one_formula b (raw_formulas.HasOneUse name) (formulas.HasOneUse j) (formulas.HasOneUse k) p q = ap (λ m. formulas.HasOneUse m) (one_place raw.source plain.source_once j k name p q)
-  one_formula b (raw_formulas.Not a) (formulas.Not x) (formulas.Not y) p q = ap (λ m. formulas.Not m) (p ∙ sym q)
-  one_formula b (raw_formulas.And a c) (formulas.And x y) (formulas.And x' y') p q = let e : x ≡ x' = p.0 ∙ sym q.0 in let e' : y ≡ y' = p.1 ∙ sym q.1 in cc
-  one_formula b (raw_formulas.Or a c) (formulas.Or x y) (formulas.Or x' y') p q = let e : x ≡ x' = p.0 ∙ sym q.0 in let e' : y ≡ y' = p.1 ∙ sym q.1 in cc
-  one_formula b (raw_formulas.Compare pred u v) (formulas.Compare o x y) g p q = absurd q
-  one_formula b (raw_formulas.IsPowerOfTwo u) (formulas.IsPowerOfTwo x) g p q = absurd q
-  one_formula b (raw_formulas.IsSignBit u) (formulas.IsSignBit x) g p q = absurd q
-  one_formula b (raw_formulas.HasOneUse name) (formulas.HasOneUse j) g p q = absurd q
-  one_formula b (raw_formulas.Not a) (formulas.Not x) g p q = absurd q
-  one_formula b (raw_formulas.And a c) (formulas.And x y) g p q = absurd q
-  one_formula b (raw_formulas.Or a c) (formulas.Or x y) g p q = absurd q
-  one_formula b w f g p q = absurd p
+  one_formula b (raw_formulas.IsPowerOfTwo u) (formulas.IsPowerOfTwo x) (formulas.IsPowerOfTwo y) free p q = ap (λ m. formulas.IsPowerOfTwo m) (let e : x ≡ y = omega (arith, p, q) in e)
+  one_formula b (raw_formulas.IsSignBit u) (formulas.IsSignBit x) (formulas.IsSignBit y) free p q = ap (λ m. formulas.IsSignBit m) (let e : x ≡ y = omega (arith, p, q) in e)
+  one_formula b (raw_formulas.HasOneUse name) (formulas.HasOneUse j) (formulas.HasOneUse k) free p q = ap (λ m. formulas.HasOneUse m) (one_place raw.source plain.source_once j k name p q)
+  one_formula b (raw_formulas.MaskedValueIsZero name u) (formulas.MaskedValueIsZero r x) (formulas.MaskedValueIsZero s y) free p q =
+      let e : r ≡ s = one_register raw names plain are r s name free p.0 q.0 in
+      let e' : x ≡ y = omega (arith, p.1, q.1) in
+      cc
+  one_formula b (raw_formulas.IsKnownNonZero name) (formulas.IsKnownNonZero r) (formulas.IsKnownNonZero s) free p q = ap (λ m. formulas.IsKnownNonZero m) (one_register raw names plain are r s name free p q)
+  one_formula b (raw_formulas.Not a) (formulas.Not x) (formulas.Not y) free p q = ap (λ m. formulas.Not m) (p ∙ sym q)
+  one_formula b (raw_formulas.And a c) (formulas.And x y) (formulas.And x' y') free p q = let e : x ≡ x' = p.0 ∙ sym q.0 in let e' : y ≡ y' = p.1 ∙ sym q.1 in cc
+  one_formula b (raw_formulas.Or a c) (formulas.Or x y) (formulas.Or x' y') free p q = let e : x ≡ x' = p.0 ∙ sym q.0 in let e' : y ≡ y' = p.1 ∙ sym q.1 in cc
+  one_formula b (raw_formulas.Compare pred u v) (formulas.Compare o x y) g free p q = absurd q
+  one_formula b (raw_formulas.IsPowerOfTwo u) (formulas.IsPowerOfTwo x) g free p q = absurd q
+  one_formula b (raw_formulas.IsSignBit u) (formulas.IsSignBit x) g free p q = absurd q
+  one_formula b (raw_formulas.HasOneUse name) (formulas.HasOneUse j) g free p q = absurd q
+  one_formula b (raw_formulas.MaskedValueIsZero name u) (formulas.MaskedValueIsZero r x) g free p q = absurd q
+  one_formula b (raw_formulas.IsKnownNonZero name) (formulas.IsKnownNonZero r) g free p q = absurd q
+  one_formula b (raw_formulas.Not a) (formulas.Not x) g free p q = absurd q
+  one_formula b (raw_formulas.And a c) (formulas.And x y) g free p q = absurd q
+  one_formula b (raw_formulas.Or a c) (formulas.Or x y) g free p q = absurd q
+  one_formula b w f g free p q = absurd p
 
-  one_precondition : (n : ℕ) (ws : List RawFormula) (fs gs : List Formula) → AllZip (λ w f. FormulaMeans raw names w.0 w.1 f) (with_terms n ws) fs → AllZip (λ w f. FormulaMeans raw names w.0 w.1 f) (with_terms n ws) gs → fs ≡ gs
-  one_precondition n [] [] [] p q = refl
-  one_precondition n [] [] (g ∷ gs) p q = absurd q
-  one_precondition n [] (f ∷ fs) gs p q = absurd p
-  one_precondition n (w ∷ ws) [] gs p q = absurd p
-  one_precondition n (w ∷ ws) (f ∷ fs) [] p q = absurd q
-  one_precondition n (w ∷ ws) (f ∷ fs) (g ∷ gs) p q =
-      let first : f ≡ g = one_formula n w f g p.0 q.0 in
-      let rest : fs ≡ gs = one_precondition (n + nodes_in (terms_of_formula w)) ws fs gs p.1 q.1 in
+  one_precondition : (n : ℕ) (ws : List RawFormula) (fs gs : List Formula) → ((k : ℕ) (w : RawFormula) → slice_get ws k ≡ Some w → FormulaRootless raw w) → AllZip (λ w f. FormulaMeans raw names w.0 w.1 f) (with_terms n ws) fs → AllZip (λ w f. FormulaMeans raw names w.0 w.1 f) (with_terms n ws) gs → fs ≡ gs
+  one_precondition n [] [] [] free p q = refl
+  one_precondition n [] [] (g ∷ gs) free p q = absurd q
+  one_precondition n [] (f ∷ fs) gs free p q = absurd p
+  one_precondition n (w ∷ ws) [] gs free p q = absurd p
+  one_precondition n (w ∷ ws) (f ∷ fs) [] free p q = absurd q
+  one_precondition n (w ∷ ws) (f ∷ fs) (g ∷ gs) free p q =
+      let first : f ≡ g = one_formula n w f g (free 0 w refl) p.0 q.0 in
+      let rest : fs ≡ gs = one_precondition (n + nodes_in (terms_of_formula w)) ws fs gs (λ k v at. free (suc k) v at) p.1 q.1 in
       cc
 
 -- ---- the root may not be used
@@ -292,6 +305,14 @@ module _ (raw : RawRule) (names : Names) (bound : IsBound raw) (are : AreNames r
   free_before : (w : RawNode) → NodeIsBound raw places.Heading w → NodeRootless raw w
   free_before w named = node_rootless raw places.Heading w (λ name may. not_root_before raw names bound.plain are name may) named
 
+  formula_rootless : (w : RawFormula) → FormulaIsBound raw w → FormulaRootless raw w
+  formula_rootless (raw_formulas.MaskedValueIsZero name a) (may, term) = not_root_before raw names bound.plain are name may
+  formula_rootless (raw_formulas.IsKnownNonZero name) may = not_root_before raw names bound.plain are name may
+  formula_rootless w named = tt
+
+  free_in_formula : (k : ℕ) (w : RawFormula) → slice_get (formula_of raw) k ≡ Some w → FormulaRootless raw w
+  free_in_formula k w at = formula_rootless w (each_at (FormulaIsBound raw) (formula_of raw) k w bound.there.precondition at)
+
   free_in_terms : (q : ℕ) (w : ℕ × RawNode) → slice_get (with_nodes 0 (terms_of raw)) q ≡ Some w → NodeRootless raw w.1
   free_in_terms q w at =
       let (t, among, (k, spot, sum)) = node_at 0 (terms_of raw) q w at in
@@ -322,7 +343,7 @@ one_meaning raw rule other bound p q =
     let (terms, longest) = one_terms raw own bound.plain p.names (length (flat_map classes_of_statement rule.source) + length (flat_map classes_of_statement rule.target)) (with_nodes 0 (terms_of raw)) rule.terms other.terms (free_in_terms raw own bound p.names) p.terms q_terms in
     let (witness, _) = one_terms raw own bound.plain p.names (length (flat_map classes_of_statement rule.source) + length (flat_map classes_of_statement rule.target) + length (flat_map classes_of_term rule.terms)) (with_nodes 0 (expressions_of raw)) rule.witness_terms other.witness_terms
     (free_in_witness raw own bound p.names) p.witness_terms q_witness in
-    let formula : rule.precondition ≡ other.precondition = one_precondition raw own bound.plain p.names (nodes_in (target_terms raw)) (formula_of raw) rule.precondition other.precondition p.precondition q_formula in
+    let formula : rule.precondition ≡ other.precondition = one_precondition raw own bound.plain p.names (nodes_in (target_terms raw)) (formula_of raw) rule.precondition other.precondition (free_in_formula raw own bound p.names) p.precondition q_formula in
     let names : rule.name ≡ other.name = p.name ∙ sym q.name in
     let witnesses : rule.witnesses ≡ other.witnesses = p.witnesses ∙ sym q.witnesses in
     let first : length (flat_map classes_of_statement rule.source) ≡ length (flat_map classes_of_statement other.source) = long in

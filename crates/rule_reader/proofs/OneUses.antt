@@ -1,5 +1,5 @@
--- The grammar of formulas has `hasOneUse` as a member of the outermost `&&` alone.
-use Rattle.rule_reader.proofs.Common.{◌≡◌, ◌⊎◌, inl, inr, ℕ, zero, suc, ◌+◌, ◌-◌, ◌^◌, ◌<◌, ◌≤◌, List, [], ◌∷◌, ◌++◌, length, map, Option, None, Some, refl, sym, ap, subst, ◌∙◌, arith, length-append, slice_get, option_map_or, sum_by-cons, same_Some, Token, RawFormula, last_place, SpellsFormula, Standing, Outermost, Within, Level, Member, compares, tests, turns, encloses, member, both, members, either, predicates, Joint, OneUse, Single, IsPartOf, AsksOneUse, part, OneUseMayStand, OneUseIsOutermost, RawPrecondition, SpellsPrecondition, formula_weight, Maybe, raw_joint, rule_limits}
+-- In a formula as it is spelled `hasOneUse`, and what is said of bits, stand as members of the outermost `&&` alone.
+use Rattle.rule_reader.proofs.Common.{◌≡◌, ◌⊎◌, inl, inr, ℕ, zero, suc, ◌+◌, ◌-◌, ◌^◌, ◌<◌, ◌≤◌, List, [], ◌∷◌, ◌++◌, length, map, Option, None, Some, refl, sym, ap, subst, ◌∙◌, arith, length-append, slice_get, option_map_or, sum_by-cons, same_Some, Token, RawFormula, last_place, SpellsFormula, Standing, Outermost, Within, Level, Member, compares, tests, masked, non_zero, turns, encloses, member, both, members, either, predicates, Joint, Outer, Single, IsPartOf, HasOuter, part, OuterMayStand, OuterIsOutermost, RawPrecondition, SpellsPrecondition, formula_weight, Maybe, raw_joint, rule_limits}
 use Rattle.std.proofs.Common.{sum_by}
 use Rattle.rule_terms.specs.declared.raw.RawFormula.TheVariants as raw_formulas
 use Rattle.rule_terms.specs.Formulas.{one_use}
@@ -15,15 +15,15 @@ right_at : {X : Type 0} (xs ys : List X) (i : ℕ) (x : X) → slice_get ys i �
 right_at [] ys i x at = subst (λ j. slice_get ys j ≡ Some x) (let same : i ≡ 0 + i = omega arith in same) at
 right_at (y ∷ xs) ys i x at = subst (λ j. slice_get (y ∷ xs ++ ys) j ≡ Some x) (let same : suc (length xs + i) ≡ length (y ∷ xs) + i = omega arith in same) (right_at xs ys i x at)
 
--- none of the nodes is `hasOneUse`
+-- no node may stand as a member of the outermost `&&` alone
 abbrev AsksNone : List RawFormula → Type 0
-AsksNone nodes = (i : ℕ) (f : RawFormula) → slice_get nodes i ≡ Some f → raw_joint f ≡ OneUse → ⊥
+AsksNone nodes = (i : ℕ) (f : RawFormula) → slice_get nodes i ≡ Some f → raw_joint f ≡ Outer → ⊥
 
 none_both : (xs ys : List RawFormula) → AsksNone xs → AsksNone ys → AsksNone (xs ++ ys)
 none_both xs ys p q i f at = elim (at_append xs ys i f at) [ inl here ↦ p i f here | inr (j, e, there') ↦ q j f there' ]
 
-none_one : (f : RawFormula) → (raw_joint f ≡ OneUse → ⊥) → AsksNone (f ∷ [])
-none_one f p zero g at = subst (λ h. raw_joint h ≡ OneUse → ⊥) (same_Some f g at) p
+none_one : (f : RawFormula) → (raw_joint f ≡ Outer → ⊥) → AsksNone (f ∷ [])
+none_one f p zero g at = subst (λ h. raw_joint h ≡ Outer → ⊥) (same_Some f g at) p
 none_one f p (suc i) g at = absurd cc
 
 -- the operands of these nodes, which begin at `start`, are among them, each before its node
@@ -61,11 +61,11 @@ module _ (joints : List Joint) where
   stand_right : (start : ℕ) (xs ys : List RawFormula) → StandFrom start (xs ++ ys) → StandFrom (start + length xs) ys
   stand_right start xs ys all i f at = subst (λ j. slice_get joints j ≡ Some (raw_joint f)) (let same : start + (length xs + i) ≡ start + length xs + i = omega arith in same) (all (length xs + i) f (right_at xs ys i f at))
 
-  -- where none of the nodes is `hasOneUse`, none of the formulas whose last node is among them has one
-  quiet : (start : ℕ) (nodes : List RawFormula) → StandFrom start nodes → OwnParts start nodes → AsksNone nodes → (m i : ℕ) → m ≡ start + i → i < length nodes → AsksOneUse joints m → ⊥
+  -- none of the nodes is one of these, nor what they are the whole of
+  quiet : (start : ℕ) (nodes : List RawFormula) → StandFrom start nodes → OwnParts start nodes → AsksNone nodes → (m i : ℕ) → m ≡ start + i → i < length nodes → HasOuter joints m → ⊥
   quiet start nodes stand own none m i e within (itself at) =
       let (f, at') = there nodes i within in
-      let same : raw_joint f ≡ OneUse = same_Some (raw_joint f) OneUse (sym (stand i f at') ∙ ap (slice_get joints) (sym e) ∙ at) in
+      let same : raw_joint f ≡ Outer = same_Some (raw_joint f) Outer (sym (stand i f at') ∙ ap (slice_get joints) (sym e) ∙ at) in
       none i f at' same
   quiet start nodes stand own none m i e within (part a node at is more) =
       let (f, at') = there nodes i within in
@@ -77,16 +77,16 @@ module _ (joints : List Joint) where
       quiet start nodes stand own none a j place inside more
 
   abbrev MayAll : List RawFormula → Type 0
-  MayAll nodes = (i : ℕ) (f : RawFormula) → slice_get nodes i ≡ Some f → OneUseMayStand joints (raw_joint f)
+  MayAll nodes = (i : ℕ) (f : RawFormula) → slice_get nodes i ≡ Some f → OuterMayStand joints (raw_joint f)
 
   may_both : (xs ys : List RawFormula) → MayAll xs → MayAll ys → MayAll (xs ++ ys)
   may_both xs ys p q i f at = elim (at_append xs ys i f at) [ inl here ↦ p i f here | inr (j, e, there') ↦ q j f there' ]
 
-  may_one : (f : RawFormula) → OneUseMayStand joints (raw_joint f) → MayAll (f ∷ [])
-  may_one f p zero g at = subst (λ h. OneUseMayStand joints (raw_joint h)) (same_Some f g at) p
+  may_one : (f : RawFormula) → OuterMayStand joints (raw_joint f) → MayAll (f ∷ [])
+  may_one f p zero g at = subst (λ h. OuterMayStand joints (raw_joint h)) (same_Some f g at) p
   may_one f p (suc i) g at = absurd cc
 
-  -- a formula that stands inside another has no `hasOneUse`
+  -- what stands within has none
   abbrev Quiet : Standing → List RawFormula → Type 0
   Quiet Within nodes = AsksNone nodes
   Quiet Outermost nodes = Unit {0}
@@ -95,13 +95,13 @@ module _ (joints : List Joint) where
   quiet_of Within nodes none = none
   quiet_of Outermost nodes none = tt
 
-  quiet_joined : (standing : Standing) (xs ys : List RawFormula) (f : RawFormula) → Quiet standing xs → Quiet standing ys → (raw_joint f ≡ OneUse → ⊥) → Quiet standing (xs ++ ys ++ f ∷ [])
+  quiet_joined : (standing : Standing) (xs ys : List RawFormula) (f : RawFormula) → Quiet standing xs → Quiet standing ys → (raw_joint f ≡ Outer → ⊥) → Quiet standing (xs ++ ys ++ f ∷ [])
   quiet_joined Within xs ys f p q r = none_both (xs ++ ys) (f ∷ []) (none_both xs ys p q) (none_one f r)
   quiet_joined Outermost xs ys f p q r = tt
 
-  -- a member is `hasOneUse` itself or has none
+  -- a member is one of these, or has none
   abbrev IsMember : Level → List RawFormula → Type 0
-  IsMember Member nodes = ((f : RawFormula) × (nodes ≡ f ∷ []) × (raw_joint f ≡ OneUse)) ⊎ AsksNone nodes
+  IsMember Member nodes = ((f : RawFormula) × (nodes ≡ f ∷ []) × (raw_joint f ≡ Outer)) ⊎ AsksNone nodes
   IsMember level nodes = Unit {0}
 
   record Made (standing : Standing) (level : Level) (start : ℕ) (nodes : List RawFormula) : Type 0 where
@@ -113,25 +113,34 @@ module _ (joints : List Joint) where
 
   lone : (standing : Standing) (start : ℕ) (f : RawFormula) → raw_joint f ≡ Single → Made standing Member start (f ∷ [])
   lone standing start f is =
-      let none : raw_joint f ≡ OneUse → ⊥ = λ asks. let both = sym is ∙ asks in absurd cc in
+      let none : raw_joint f ≡ Outer → ⊥ = λ asks. let both = sym is ∙ asks in absurd cc in
       record {
         some = omega arith;
         own = own_one start start f (omega arith) (λ a which. absurd (subst (IsPartOf a) is which));
-        may = may_one f (subst (OneUseMayStand joints) (sym is) tt);
+        may = may_one f (subst (OuterMayStand joints) (sym is) tt);
         quiet_within = quiet_of standing (f ∷ []) (none_one f none);
         is_member = inr (none_one f none);
       }
 
+  outer : (start : ℕ) (f : RawFormula) → raw_joint f ≡ Outer → Made Outermost Member start (f ∷ [])
+  outer start f is = record {
+    some = omega arith;
+    own = own_one start start f (omega arith) (λ a which. absurd (subst (IsPartOf a) is which));
+    may = may_one f (subst (OuterMayStand joints) (sym is) tt);
+    quiet_within = tt;
+    is_member = inl (f, refl, is);
+  }
+
   last_at : (start : ℕ) (nodes : List RawFormula) → 1 ≤ length nodes → start + length nodes ≤ 2 ^ 32 → last_place (start + length nodes) ≡ start + (length nodes - 1)
   last_at start nodes some few = omega (arith, some, few)
 
-  -- the right side of a `&&`, a member, is `hasOneUse` itself or has none
-  right_alone : (start : ℕ) (nodes : List RawFormula) → 1 ≤ length nodes → StandFrom start nodes → OwnParts start nodes → IsMember Member nodes → (b : ℕ) → b ≡ start + (length nodes - 1) → AsksOneUse joints b → slice_get joints b ≡ Some OneUse
+  -- where so many nodes stand the one on the right of a `&&` is one of these itself, or has none
+  right_alone : (start : ℕ) (nodes : List RawFormula) → 1 ≤ length nodes → StandFrom start nodes → OwnParts start nodes → IsMember Member nodes → (b : ℕ) → b ≡ start + (length nodes - 1) → HasOuter joints b → slice_get joints b ≡ Some Outer
   right_alone start nodes some stand own (inl (f, whole, asks)) b e which =
       let one : length nodes ≡ 1 = ap length whole in
       let first : slice_get nodes 0 ≡ Some f = ap (λ (ns : List RawFormula). slice_get ns 0) whole in
       let place : start + 0 ≡ b = omega (arith, e, one) in
-      subst (λ k. slice_get joints k ≡ Some OneUse) place (stand 0 f first ∙ ap (λ (x : Joint). Some x) asks)
+      subst (λ k. slice_get joints k ≡ Some Outer) place (stand 0 f first ∙ ap (λ (x : Joint). Some x) asks)
   right_alone start nodes some stand own (inr none) b e which = let within : length nodes - 1 < length nodes = omega (arith, some) in absurd (quiet start nodes stand own none b (length nodes - 1) e within which)
 
   -- two operands and their operator's node behind them
@@ -146,13 +155,13 @@ module _ (joints : List Joint) where
   halves start left right node few stand =
       let two : length (left ++ right ++ node ∷ []) ≡ length (left ++ right) + 1 = length-append (left ++ right) (node ∷ []) in
       let one : length (left ++ right) ≡ length left + length right = length-append left right in
-      let outer : StandFrom start (left ++ right) = stand_left start (left ++ right) (node ∷ []) stand in
+      let operands : StandFrom start (left ++ right) = stand_left start (left ++ right) (node ∷ []) stand in
       record {
         long = omega (arith, one, two);
         left_few = omega (arith, few, one, two);
         right_few = omega (arith, few, one, two);
-        left_stand = stand_left start left right outer;
-        right_stand = stand_right start left right outer;
+        left_stand = stand_left start left right operands;
+        right_stand = stand_right start left right operands;
       }
 
   joined_at : (start : ℕ) (left right : List RawFormula) → 1 ≤ length left → 1 ≤ length right → start + length left + length right ≤ 2 ^ 32
@@ -165,13 +174,9 @@ module _ (joints : List Joint) where
     | inl power ↦ subst (λ f. Made standing Member start (f ∷ [])) (sym power.1) (lone standing start (raw_formulas.IsPowerOfTwo term) refl)
     | inr sign ↦ subst (λ f. Made standing Member start (f ∷ [])) (sym sign.1) (lone standing start (raw_formulas.IsSignBit term) refl)
   ]
-  made (one_use {start = start} {name = name} le) few stand = record {
-    some = omega arith;
-    own = own_one start start (raw_formulas.HasOneUse name) (omega arith) (λ a which. absurd which);
-    may = may_one (raw_formulas.HasOneUse name) tt;
-    quiet_within = tt;
-    is_member = inl (raw_formulas.HasOneUse name, refl, refl);
-  }
+  made (one_use {start = start} {name = name} le) few stand = outer start (raw_formulas.HasOneUse name) refl
+  made (masked {start = start} {name = name} {term = term} le s) few stand = outer start (raw_formulas.MaskedValueIsZero name term) refl
+  made (non_zero {start = start} {name = name} le) few stand = outer start (raw_formulas.IsKnownNonZero name) refl
   made {standing} (turns {start = start} {nodes = nodes} s) few stand =
       let node : RawFormula = raw_formulas.Not (last_place (start + length nodes)) in
       let long : length (nodes ++ node ∷ []) ≡ length nodes + 1 = length-append nodes (node ∷ []) in
@@ -242,15 +247,15 @@ module _ (joints : List Joint) where
       }
 
 -- the formula of `Pre:`, if there is one
-pub precondition_one_use : (p : Option RawPrecondition) (tokens : List Token) → Maybe (SpellsPrecondition rule_limits) p tokens → length (option_map_or (λ q. q.formula) p []) ≤ 2 ^ 32 → OneUseIsOutermost (map raw_joint (option_map_or (λ q. q.formula) p []))
-precondition_one_use None tokens spelled few n node at = elim n as (λ j. slice_get [] j ≡ Some node → OneUseMayStand [] node) [ zero ↦ λ h. absurd (cc) | suc j ↦ λ h. absurd (cc) ] at
-precondition_one_use (Some p) tokens spelled few n node at =
+pub precondition_outer : (p : Option RawPrecondition) (tokens : List Token) → Maybe (SpellsPrecondition rule_limits) p tokens → length (option_map_or (λ q. q.formula) p []) ≤ 2 ^ 32 → OuterIsOutermost (map raw_joint (option_map_or (λ q. q.formula) p []))
+precondition_outer None tokens spelled few n node at = elim n as (λ j. slice_get [] j ≡ Some node → OuterMayStand [] node) [ zero ↦ λ h. absurd (cc) | suc j ↦ λ h. absurd (cc) ] at
+precondition_outer (Some p) tokens spelled few n node at =
     let joints : List Joint = map raw_joint p.formula in
     let stand : (i : ℕ) (f : RawFormula) → slice_get p.formula i ≡ Some f → slice_get joints (0 + i) ≡ Some (raw_joint f) =
     λ i f at'. subst (λ j. slice_get joints j ≡ Some (raw_joint f)) (let same : i ≡ 0 + i = omega arith in same) (map_at raw_joint p.formula i f at') in
     let x = made joints spelled.1 (omega (arith, few)) stand in
     let (f, at', is) = at_map raw_joint p.formula n node at in
-    subst (OneUseMayStand joints) is (x.may n f at')
+    subst (OuterMayStand joints) is (x.may n f at')
 
 -- a formula has no more nodes than it counts as
 one_weighs : (f : RawFormula) → 1 ≤ formula_weight f

@@ -60,6 +60,8 @@ module _ (raw : RawRule) (names : Names) where
   one_formula b (raw_formulas.IsPowerOfTwo u) (formulas.IsPowerOfTwo x) means = refl
   one_formula b (raw_formulas.IsSignBit u) (formulas.IsSignBit x) means = refl
   one_formula b (raw_formulas.HasOneUse name) (formulas.HasOneUse k) means = refl
+  one_formula b (raw_formulas.MaskedValueIsZero name u) (formulas.MaskedValueIsZero r x) means = refl
+  one_formula b (raw_formulas.IsKnownNonZero name) (formulas.IsKnownNonZero r) means = refl
   one_formula b (raw_formulas.Not a) (formulas.Not x) means = refl
   one_formula b (raw_formulas.And a c) (formulas.And x y) means = refl
   one_formula b (raw_formulas.Or a c) (formulas.Or x y) means = refl

@@ -1,6 +1,6 @@
 -- What the grammar ensures of terms, formulas and expressions: nodes stand behind their operands, and constant terms
 -- have no registers.
-use Rattle.rule_reader.proofs.Common.{◌≡◌, inl, inr, ℕ, zero, suc, ◌+◌, ◌<◌, ◌≤◌, List, [], ◌∷◌, ◌++◌, length, Option, Some, None, sym, subst, length-append, arith, slice_get, option_map_or, same_Some, Maybe, Token, TermPlace, RawNode, RawFormula, last_place, SpellsTerm, SpellsWholeTerm, leaf, width, parenthesised, called, prefixed, tighter, joined, SpellsFormula, Standing, Level, compares, tests, turns, encloses, member, both, members, either, predicates, RawPrecondition, RawWitness, SpellsPrecondition, SpellsMoreExpressions, SpellsExpressions, SpellsWitness, Each, terms_of_formula, IsTerm, MayStandInTerm, IsBehindFormulas, rule_limits}
+use Rattle.rule_reader.proofs.Common.{◌≡◌, inl, inr, ℕ, zero, suc, ◌+◌, ◌<◌, ◌≤◌, List, [], ◌∷◌, ◌++◌, length, Option, Some, None, sym, subst, length-append, arith, slice_get, option_map_or, same_Some, Maybe, Token, TermPlace, RawNode, RawFormula, last_place, SpellsTerm, SpellsWholeTerm, leaf, width, parenthesised, called, prefixed, tighter, joined, SpellsFormula, Standing, Level, compares, tests, masked, non_zero, turns, encloses, member, both, members, either, predicates, RawPrecondition, RawWitness, SpellsPrecondition, SpellsMoreExpressions, SpellsExpressions, SpellsWitness, Each, terms_of_formula, IsTerm, MayStandInTerm, IsBehindFormulas, rule_limits}
 use Rattle.rule_terms.specs.declared.place.TermPlace.TheVariants as term_places
 use Rattle.rule_terms.specs.declared.raw.RawNode.TheVariants as raw_nodes
 use Rattle.rule_terms.specs.declared.raw.RawFormula.TheVariants as raw_formulas
@@ -120,6 +120,8 @@ spelled_formula (tests {nesting = nesting} {start = start} {term = term} {own = 
       | inr sign ↦ subst (λ f. Nodes start (f ∷ [])) (sym sign.1) (lone start (raw_formulas.IsSignBit term) tt (terms, tt))
     ]
 spelled_formula (one_use {start = start} {name = name} le) = lone start (raw_formulas.HasOneUse name) tt tt
+spelled_formula (masked {nesting = nesting} {start = start} {name = name} {term = term} {own = own} le s) = lone start (raw_formulas.MaskedValueIsZero name term) tt (constant_term nesting term own s, tt)
+spelled_formula (non_zero {start = start} {name = name} le) = lone start (raw_formulas.IsKnownNonZero name) tt tt
 spelled_formula (turns {start = start} {nodes = nodes} s) = turned start nodes (spelled_formula s)
 spelled_formula (encloses s) = spelled_formula s
 spelled_formula (member s) = spelled_formula s

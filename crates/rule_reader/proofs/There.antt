@@ -64,4 +64,5 @@ module _ (raw : RawRule) (there : NamesAreThere raw) where
       formula_term (raw_formulas.Compare pred u v) t among is = elim (one_of u v t among) [ inl e ↦ subst (TermIsBound raw places.Heading) e is.0 | inr e ↦ subst (TermIsBound raw places.Heading) e is.1 ]
       formula_term (raw_formulas.IsPowerOfTwo u) t among is = subst (TermIsBound raw places.Heading) (only u t among) is
       formula_term (raw_formulas.IsSignBit u) t among is = subst (TermIsBound raw places.Heading) (only u t among) is
+      formula_term (raw_formulas.MaskedValueIsZero name u) t among is = subst (TermIsBound raw places.Heading) (only u t among) is.1
       formula_term f t (i, within, e) is = absurd (omega arith)

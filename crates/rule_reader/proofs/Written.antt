@@ -4,7 +4,7 @@ use Rattle.rule_parse.specs.declared.raw.RawArgument.TheVariants as raw_argument
 use Rattle.rule_reader.proofs.Members.{each_in, each_append, each_flat}
 use Rattle.rule_reader.proofs.LineOrder.{Ascend, skip, up_from, none_at, ordered, headed}
 use Rattle.rule_reader.proofs.SpelledTerms.{IsConstantNode, may_stand, IsConstantTerm, formula_behind, formula_terms, expression_terms}
-use Rattle.rule_reader.proofs.OneUses.{precondition_one_use, formula_weighs}
+use Rattle.rule_reader.proofs.OneUses.{precondition_outer, formula_weighs}
 use Rattle.rule_reader.proofs.Spelled.{argument_spelled, short_alone, term_operand, spelled_terms, written_flags, no_copies}
 
 -- the grammar spells each statement of a half
@@ -76,7 +76,7 @@ well_formed version low raw tokens behind spelled small up =
       constant_terms = λ t node among within. may_stand node (each_in IsConstantNode t node (each_in IsConstantTerm (terms_of raw) t constant_terms among).1 within);
       expressions = λ t among. each_in IsTerm (expressions_of raw) t expressions among;
       formula = formula_behind raw.precondition spelled.precondition spelled.is_precondition;
-      one_use = precondition_one_use raw.precondition spelled.precondition spelled.is_precondition (omega (arith, small, formula_weighs (formula_of raw)));
+      outer = precondition_outer raw.precondition spelled.precondition spelled.is_precondition (omega (arith, small, formula_weighs (formula_of raw)));
       weight = small;
     }
 

@@ -72,12 +72,15 @@ ArgumentIsBound raw place (raw_arguments.Constant name) = IsConstant raw.source 
 ArgumentIsBound raw place (raw_arguments.Term t) = TermIsBound raw place t
 ArgumentIsBound raw place argument = Unit {0}
 
--- what a node of `Pre:` names may be used there; `hasOneUse` is asked of a temporary of the source
+-- and what a node of a formula names; one use is asked of a temporary of the source, and bits are known of an input or a
+-- temporary
 abbrev pub FormulaIsBound : RawRule → RawFormula → Type 0
 FormulaIsBound raw (raw_formulas.Compare pred a b) = TermIsBound raw places.Heading a × TermIsBound raw places.Heading b
 FormulaIsBound raw (raw_formulas.IsPowerOfTwo a) = TermIsBound raw places.Heading a
 FormulaIsBound raw (raw_formulas.IsSignBit a) = TermIsBound raw places.Heading a
 FormulaIsBound raw (raw_formulas.HasOneUse name) = IsTemporary raw.source name
+FormulaIsBound raw (raw_formulas.MaskedValueIsZero name a) = MayUse raw places.Heading name × TermIsBound raw places.Heading a
+FormulaIsBound raw (raw_formulas.IsKnownNonZero name) = MayUse raw places.Heading name
 FormulaIsBound raw formula = Unit {0}
 
 -- all that a statement names may be used at its place

@@ -215,6 +215,8 @@ module _ (raw : RawRule) (names : Names) where
   FormulaMeans before (raw_formulas.IsPowerOfTwo a) (formulas.IsPowerOfTwo x) = suc x ≡ before + length a
   FormulaMeans before (raw_formulas.IsSignBit a) (formulas.IsSignBit x) = suc x ≡ before + length a
   FormulaMeans before (raw_formulas.HasOneUse name) (formulas.HasOneUse k) = AssignsAt raw.source k name
+  FormulaMeans before (raw_formulas.MaskedValueIsZero name a) (formulas.MaskedValueIsZero r x) = HasName r name × (suc x ≡ before + length a)
+  FormulaMeans before (raw_formulas.IsKnownNonZero name) (formulas.IsKnownNonZero r) = HasName r name
   FormulaMeans before (raw_formulas.Not a) (formulas.Not x) = x ≡ a
   FormulaMeans before (raw_formulas.And a b) (formulas.And x y) = (x ≡ a) × (y ≡ b)
   FormulaMeans before (raw_formulas.Or a b) (formulas.Or x y) = (x ≡ a) × (y ≡ b)

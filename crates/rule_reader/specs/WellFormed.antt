@@ -2,7 +2,7 @@
 use Rattle.std.specs.Prelude.{◌≡◌, ℕ, ◌<◌, ◌≤◌, List, length, map, Some, Contains, slice_get}
 use Rattle.ops.specs.Flags.{FlagsFit, CastFlagsFit}
 use Rattle.ops.specs.Truths.{TruthFits}
-use Rattle.rule_core.specs.FormulaNodes.{Joint, OneUse, Single, Turns, Both, Either, OneUseIsOutermost}
+use Rattle.rule_core.specs.FormulaNodes.{Joint, Outer, Single, Turns, Both, Either, OuterIsOutermost}
 use Rattle.rule_parse.specs.declared.raw.RawRule.{RawRule}
 use Rattle.rule_parse.specs.declared.raw.RawPrecondition.{RawPrecondition}
 use Rattle.rule_parse.specs.declared.raw.RawWitness.{RawWitness}
@@ -65,7 +65,9 @@ IsBehindFormulas k formula = Unit {0}
 
 -- a node of `Pre:`, as far as it matters to where `hasOneUse` may stand
 abbrev pub raw_joint : RawFormula → Joint
-raw_joint (raw_formulas.HasOneUse name) = OneUse
+raw_joint (raw_formulas.HasOneUse name) = Outer
+raw_joint (raw_formulas.MaskedValueIsZero name a) = Outer
+raw_joint (raw_formulas.IsKnownNonZero name) = Outer
 raw_joint (raw_formulas.Not a) = Turns a
 raw_joint (raw_formulas.And a b) = Both a b
 raw_joint (raw_formulas.Or a b) = Either a b
@@ -89,7 +91,7 @@ pub record IsWellFormed (raw : RawRule) : Type 0 where
   pub constant_terms : (t : List RawNode) (node : RawNode) → Contains (terms_of raw) t → Contains t node → MayStandInTerm node
   pub expressions : (t : List RawNode) → Contains (expressions_of raw) t → IsTerm t
   pub formula : (k : ℕ) (f : RawFormula) → slice_get (formula_of raw) k ≡ Some f → IsBehindFormulas k f
-  -- `hasOneUse` stands as a member of the outermost `&&` alone
-  pub one_use : OneUseIsOutermost (map raw_joint (formula_of raw))
+  -- `hasOneUse`, and what is said of bits, stand as members of the outermost `&&` alone
+  pub outer : OuterIsOutermost (map raw_joint (formula_of raw))
   -- and there are not more than 256 operands, nodes and names
   pub weight : raw_weight raw ≤ 256

@@ -126,6 +126,13 @@ fn formula_node_is_bound(rule: &RawRule, names: &Names, node: &RawFormula) -> bo
             let source = rule.source.as_slice();
             is_assigned(source, source.len() - 1, name.as_slice())
         }
+        RawFormula::MaskedValueIsZero(name, mask) => {
+            found(rule, names, UseSite::Heading, name.as_slice()).is_some()
+                && term_is_bound(rule, names, UseSite::Heading, mask.as_slice())
+        }
+        RawFormula::IsKnownNonZero(name) => {
+            found(rule, names, UseSite::Heading, name.as_slice()).is_some()
+        }
         RawFormula::Not(_) | RawFormula::And(_, _) | RawFormula::Or(_, _) => true,
     }
 }

@@ -10,6 +10,7 @@ ghost use Rattle.rule_reader.specs.KnownRules.{TermIsReady, HasReadyTerms, AddsT
 use crate::names::Names;
 use crate::place::UseSite;
 use crate::registers::assigning;
+use crate::resolve::register;
 use crate::terms::add_term;
 use lists::List;
 use rule_core::{Formula, Term};
@@ -86,6 +87,17 @@ fn node(
             term.as_slice(),
         )?),
         RawFormula::HasOneUse(name) => Formula::HasOneUse(temporary(rule, name.as_slice())),
+        RawFormula::MaskedValueIsZero(name, mask) => {
+            let masked = register(rule, names, UseSite::Heading, name.as_slice());
+            let mask = place_of_term(alloc, terms, rule, names, mask.as_slice())?;
+            Formula::MaskedValueIsZero(masked, mask)
+        }
+        RawFormula::IsKnownNonZero(name) => Formula::IsKnownNonZero(register(
+            rule,
+            names,
+            UseSite::Heading,
+            name.as_slice(),
+        )),
         RawFormula::Not(operand) => Formula::Not(*operand),
         RawFormula::And(left, right) => Formula::And(*left, *right),
         RawFormula::Or(left, right) => Formula::Or(*left, *right),

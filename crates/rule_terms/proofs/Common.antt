@@ -14,9 +14,9 @@ unfoldable pub use Rattle.rule_terms.specs.Chains.{chain_of}
 pub use Rattle.rule_terms.specs.Chains.{next_is}
 unfoldable pub use Rattle.rule_terms.specs.FormulaKeywords.{comparison_in, predicate_in}
 pub use Rattle.rule_terms.specs.FormulaKeywords.{comparison_mark, predicate_node, predicate_word}
-unfoldable pub use Rattle.rule_terms.specs.FormulaReaders.{compares_at, comparison_at, formula_at, member_at, one_use_at, opens_formula, outer_member_at, tests_at}
-pub use Rattle.rule_terms.specs.FormulaReaders.{alternatives_of, asks_one_use, comparison_or_fault, deeper, encloses_at, joins, mark_opening, members_of, more_alternatives, more_members, opens_behind, or_alternatives, register_at, sign_of, too_deep, turns_at, word_opening, word_sign}
-pub use Rattle.rule_terms.specs.Formulas.{Alternatives, Level, Member, Members, Outermost, SpellsFormula, SpellsWholeFormula, Standing, Within, both, compares, either, encloses, member, members, one_use, tests, turns}
+unfoldable pub use Rattle.rule_terms.specs.FormulaReaders.{compares_at, comparison_at, formula_at, masked_at, member_at, non_zero_at, one_use_at, opens_formula, outer_member_at, tests_at}
+pub use Rattle.rule_terms.specs.FormulaReaders.{alternatives_of, comparison_or_fault, deeper, encloses_at, is_outer, joins, mark_opening, members_of, more_alternatives, more_members, opens_behind, or_alternatives, register_at, sign_of, too_deep, turns_at, word_opening, word_sign}
+pub use Rattle.rule_terms.specs.Formulas.{Alternatives, Level, Member, Members, Outermost, SpellsFormula, SpellsWholeFormula, Standing, Within, both, compares, either, encloses, masked, member, members, non_zero, one_use, tests, turns}
 pub use Rattle.rule_terms.specs.Grammar.{EndsTerm, SpellsLeaf, SpellsTerm, SpellsWholeTerm, called, last_place, leaf, parenthesised, prefixed, tighter, width}
 unfoldable pub use Rattle.rule_terms.specs.Keywords.{choice_in, meaning_in, name_in, operator_in}
 pub use Rattle.rule_terms.specs.Keywords.{IsCalled, IsChoice, IsPrefix, choice_meaning, level_of, loosest, operator_mark, operators}
@@ -45,7 +45,7 @@ pub use Rattle.rule_tokens.specs.PartReaders.{Read, fault, line_end, name_within
 pub use Rattle.rule_tokens.specs.RuleFaults.{RuleError, RuleFault}
 pub use Rattle.rule_tokens.specs.SeenTokens.{seen}
 pub use Rattle.rule_tokens.specs.Steps.{◌>>=◌}
-pub use Rattle.rule_tokens.specs.Tokens.{Line, Mark, Number, Register, Token, Word}
+pub use Rattle.rule_tokens.specs.Tokens.{Fact, Line, Mark, Number, Register, Token, Word}
 pub use Rattle.rule_tokens.specs.declared.fault.RuleFaultKind.TheVariants.{Syntax}
 pub use Rattle.scan.proofs.Fronts.{and_left, and_right, which}
 pub use Rattle.scan.specs.Bytes.{are_digits, begins_with, is_digit}

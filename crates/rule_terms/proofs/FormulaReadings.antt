@@ -1,5 +1,6 @@
 -- What the parser reads as a formula is what the grammar spells with the tokens that it takes.
-use Rattle.rule_terms.proofs.Common.{◌≡◌, ℕ, zero, suc, ◌+◌, ◌≤◌, Bool, true, false, List, [], ◌∷◌, ◌++◌, length, drop, Option, Some, None, Ok, refl, sym, ap, subst, ◌∙◌, ⊎_elim, append_assoc, length-append, arith, codes, ◌&&◌, ◌||◌, if◌then◌else◌, list_any, bytes_eq, list_any-append, Pred, and_left, predicates, same_word, found-passes, RuleError, Refused, NoMemory, Fails, ◌>>=◌, name_within, line_end, Token, Register, Word, Mark, done, bind_ok, bound, read_as, chosen, guarded, Takes, name_within-is, line_end-is, Constant, RawFormula, Opening, Turns, Encloses, Tests, Compares, Predicate, IsPowerOfTwo, IsSignBit, next_is, chain_of, Standing, Outermost, Within, Level, Member, Members, Alternatives, SpellsFormula, SpellsWholeFormula, compares, tests, one_use, turns, encloses, member, both, members, either, comparison_or_fault, comparison_at, compares_at, deeper, tests_at, register_at, one_use_at, joins, members_of, more_alternatives, alternatives_of, too_deep, member_at, outer_member_at, asks_one_use, or_alternatives, formula_at, mark_opening, word_opening, opens_formula, comparison_mark, comparison_in, predicate_word, predicate_node, predicate_in, last_place, mark_at, term_at, Limits}
+use Rattle.rule_terms.proofs.Common.{◌≡◌, ℕ, zero, suc, ◌+◌, ◌≤◌, Bool, true, false, List, [], ◌∷◌, ◌++◌, length, drop, Option, Some, None, Ok, refl, sym, ap, subst, ◌∙◌, ⊎_elim, append_assoc, length-append, arith, codes, ◌&&◌, ◌||◌, if◌then◌else◌, list_any, bytes_eq, list_any-append, Pred, and_left, predicates, same_word, found-passes, RuleError, Refused, NoMemory, Fails, ◌>>=◌, name_within, line_end, Token, Register, Word, Fact, Mark, done, bind_ok, bound, read_as, chosen, guarded, Takes, name_within-is, line_end-is, Constant, RawFormula, Opening, Turns, Encloses, Tests, Compares, Predicate, IsPowerOfTwo, IsSignBit, next_is, chain_of, Standing, Outermost, Within, Level, Member, Members, Alternatives, SpellsFormula, SpellsWholeFormula, compares, tests, one_use, masked, non_zero, turns, encloses, member, both, members, either, comparison_or_fault, comparison_at, compares_at, deeper, tests_at, register_at, one_use_at, masked_at, non_zero_at, joins, members_of, more_alternatives, alternatives_of, too_deep, member_at, outer_member_at, is_outer, or_alternatives, formula_at, mark_opening, word_opening, opens_formula, comparison_mark, comparison_in, predicate_word, predicate_node, predicate_in, last_place, mark_at, term_at, Limits}
+use Rattle.rule_tokens.specs.declared.fact.BitFact.TheVariants as facts
 use Rattle.rule_terms.specs.declared.raw.RawFormula.TheVariants as raw
 use Rattle.rule_terms.specs.Chains.{Reader}
 use Rattle.rule_terms.specs.Formulas.{joined}
@@ -102,6 +103,48 @@ module _ (limits : Limits) where
         is_own = one_use r.0;
         made = refl;
         whole = ap (λ (ts : List Token). Word (codes "hasOneUse") ∷ ts) (mark_at-is limits (codes "(") line tokens opened p ∙ ap (λ (ts : List Token). Mark (codes "(") ∷ ts) (r.1 ∙ ap (λ (ts : List Token). Register register.0 ∷ ts) (mark_at-is limits (codes ")") line register.1 rest s)));
+      }))))
+
+  masked_at-is : (nesting line : ℕ) (before : List RawFormula) (tokens : List Token) (x : List RawFormula × List Token) → masked_at limits nesting line before tokens ≡ Ok x → Adds Outermost Member nesting before (Fact facts.MaskedValueIsZero ∷ tokens) x
+  unfolding masked_at
+  masked_at-is nesting line before tokens x e =
+      bound (mark_at (codes "(") line tokens) _ _ e (λ opened p e1.
+      bound (deeper line nesting) _ _ e1 (λ inside d e2.
+      bound (register_at limits line opened) _ _ e2 (λ register q e3.
+      bound (mark_at (codes ",") line register.1) _ _ e3 (λ behind m e4.
+      bound (term_at limits Constant inside line behind) _ _ e4 (λ term r e5.
+      bound (mark_at (codes ")") line term.1) _ _ e5 (λ rest s e6.
+      let name = register_at-is line opened register q in
+      let t = term_at-is limits Constant inside line behind term r in
+      let nodes : List RawFormula = raw.MaskedValueIsZero register.0 term.0 ∷ [] in
+      let own : List Token = Fact facts.MaskedValueIsZero ∷ Mark (codes "(") ∷ Register register.0 ∷ Mark (codes ",") ∷ t.own ++ Mark (codes ")") ∷ [] in
+      let mask : Mark (codes ",") ∷ behind ≡ Mark (codes ",") ∷ ((t.own ++ Mark (codes ")") ∷ []) ++ rest)
+      = ap (λ (ts : List Token). Mark (codes ",") ∷ ts) (t.whole ∙ closed t.own rest term.1 (mark_at-is limits (codes ")") line term.1 rest s)) in
+      let named : opened ≡ Register register.0 ∷ Mark (codes ",") ∷ ((t.own ++ Mark (codes ")") ∷ []) ++ rest)
+      = name.1 ∙ ap (λ (ts : List Token). Register register.0 ∷ ts) (mark_at-is limits (codes ",") line register.1 behind m ∙ mask) in
+      read_as (Adds Outermost Member nesting before (Fact facts.MaskedValueIsZero ∷ tokens)) (before ++ nodes, rest) x e6
+      (record {
+        nodes = nodes;
+        own = own;
+        is_own = subst (λ (k : ℕ). SpellsFormula limits Outermost Member k (length before) nodes own) (sym (deeper-is line nesting inside d)) (masked name.0 t.is_own);
+        made = refl;
+        whole = ap (λ (ts : List Token). Fact facts.MaskedValueIsZero ∷ ts) (mark_at-is limits (codes "(") line tokens opened p ∙ ap (λ (ts : List Token). Mark (codes "(") ∷ ts) named);
+      })))))))
+
+  non_zero_at-is : (nesting line : ℕ) (before : List RawFormula) (tokens : List Token) (x : List RawFormula × List Token) → non_zero_at limits line before tokens ≡ Ok x → Adds Outermost Member nesting before (Fact facts.IsKnownNonZero ∷ tokens) x
+  unfolding non_zero_at
+  non_zero_at-is nesting line before tokens x e =
+      bound (mark_at (codes "(") line tokens) _ _ e (λ opened p e1.
+      bound (register_at limits line opened) _ _ e1 (λ register q e2.
+      bound (mark_at (codes ")") line register.1) _ _ e2 (λ rest s e3.
+      let r = register_at-is line opened register q in
+      read_as (Adds Outermost Member nesting before (Fact facts.IsKnownNonZero ∷ tokens)) (before ++ raw.IsKnownNonZero register.0 ∷ [], rest) x e3
+      (record {
+        nodes = raw.IsKnownNonZero register.0 ∷ [];
+        own = Fact facts.IsKnownNonZero ∷ Mark (codes "(") ∷ Register register.0 ∷ Mark (codes ")") ∷ [];
+        is_own = non_zero r.0;
+        made = refl;
+        whole = ap (λ (ts : List Token). Fact facts.IsKnownNonZero ∷ ts) (mark_at-is limits (codes "(") line tokens opened p ∙ ap (λ (ts : List Token). Mark (codes "(") ∷ ts) (r.1 ∙ ap (λ (ts : List Token). Register register.0 ∷ ts) (mark_at-is limits (codes ")") line register.1 rest s)));
       }))))
 
   -- ---- chains
@@ -277,6 +320,8 @@ module _ (limits : Limits) where
       subst (λ (w : List ℕ). Adds Outermost Member limits.nested before (Word w ∷ rest) x) (sym (same_word word (codes "hasOneUse") h.0)) (one_use_at-is limits.nested line before rest x h.1))
       (λ (h : (bytes_eq word (codes "hasOneUse") ≡ false) × (member_at limits limits.nested line before (Word word ∷ rest) ≡ Ok x)). member_at-is Outermost limits.nested line before (Word word ∷ rest) x h.1)
       (chosen (bytes_eq word (codes "hasOneUse")) (one_use_at limits line before rest) (member_at limits limits.nested line before (Word word ∷ rest)) (Ok x) e)
+  outer_member_at-is line before (Fact facts.MaskedValueIsZero ∷ rest) x e = masked_at-is limits.nested line before rest x e
+  outer_member_at-is line before (Fact facts.IsKnownNonZero ∷ rest) x e = non_zero_at-is limits.nested line before rest x e
   outer_member_at-is line before tokens x e = member_at-is Outermost limits.nested line before tokens x e
 
   -- what appends nodes leaves no more tokens than there were
@@ -308,14 +353,16 @@ module _ (limits : Limits) where
   neither false true e = absurd cc
   neither true q e = absurd cc
 
-  none_among : (front back : List RawFormula) → list_any asks_one_use (front ++ back) ≡ false → (list_any asks_one_use front ≡ false) × (list_any asks_one_use back ≡ false)
-  none_among front back none = neither (list_any asks_one_use front) (list_any asks_one_use back) (sym (list_any-append asks_one_use front back) ∙ none)
+  none_among : (front back : List RawFormula) → list_any is_outer (front ++ back) ≡ false → (list_any is_outer front ≡ false) × (list_any is_outer back ≡ false)
+  none_among front back none = neither (list_any is_outer front) (list_any is_outer back) (sym (list_any-append is_outer front back) ∙ none)
 
-  -- a formula without `hasOneUse` may also stand inside another
-  pub stands_within : {standing : Standing} {level : Level} {nesting start : ℕ} {nodes : List RawFormula} {own : List Token} → SpellsFormula limits standing level nesting start nodes own → list_any asks_one_use nodes ≡ false → SpellsFormula limits Within level nesting start nodes own
+  -- without a member of the outermost `&&` alone it may stand within another
+  pub stands_within : {standing : Standing} {level : Level} {nesting start : ℕ} {nodes : List RawFormula} {own : List Token} → SpellsFormula limits standing level nesting start nodes own → list_any is_outer nodes ≡ false → SpellsFormula limits Within level nesting start nodes own
   stands_within (compares pred left right) none = compares pred left right
   stands_within (tests predicate term) none = tests predicate term
   stands_within (one_use le) none = absurd cc
+  stands_within (masked le term) none = absurd cc
+  stands_within (non_zero le) none = absurd cc
   stands_within (turns inside) none = turns inside
   stands_within (encloses inside) none = encloses inside
   stands_within (member one) none = member (stands_within one none)
@@ -330,6 +377,8 @@ module _ (limits : Limits) where
   stands_outermost (compares pred left right) = compares pred left right
   stands_outermost (tests predicate term) = tests predicate term
   stands_outermost (one_use le) = one_use le
+  stands_outermost (masked le term) = masked le term
+  stands_outermost (non_zero le) = non_zero le
   stands_outermost (turns inside) = turns inside
   stands_outermost (encloses inside) = encloses inside
   stands_outermost (member one) = member (stands_outermost one)
@@ -337,11 +386,11 @@ module _ (limits : Limits) where
   stands_outermost (members all) = members (stands_outermost all)
   stands_outermost (either l r) = either l r
 
-  outer_alternatives-is : (line : ℕ) (tokens : List Token) (first x : List RawFormula × List Token) (asks : Bool) → list_any asks_one_use first.0 ≡ asks → Adds Outermost Members limits.nested [] tokens first → or_alternatives limits line asks first.0 first.1 ≡ Ok x → Adds Outermost Alternatives limits.nested [] tokens x
+  outer_alternatives-is : (line : ℕ) (tokens : List Token) (first x : List RawFormula × List Token) (asks : Bool) → list_any is_outer first.0 ≡ asks → Adds Outermost Members limits.nested [] tokens first → or_alternatives limits line asks first.0 first.1 ≡ Ok x → Adds Outermost Alternatives limits.nested [] tokens x
   outer_alternatives-is line tokens first x true f a e =
       read_as (Adds Outermost Alternatives limits.nested [] tokens) (first.0, first.1) x e (record { nodes = a.nodes; own = a.own; is_own = members a.is_own; made = a.made; whole = a.whole })
   outer_alternatives-is line tokens first x false f a e =
-      let none : list_any asks_one_use a.nodes ≡ false = subst (λ (ns : List RawFormula). list_any asks_one_use ns ≡ false) a.made f in
+      let none : list_any is_outer a.nodes ≡ false = subst (λ (ns : List RawFormula). list_any is_outer ns ≡ false) a.made f in
       let within : Adds Within Members limits.nested [] tokens first = record { nodes = a.nodes; own = a.own; is_own = stands_within a.is_own none; made = a.made; whole = a.whole } in
       let all = more_alternatives-is limits.nested (member_at limits limits.nested line) [] tokens first x (member_at-is Within limits.nested line) within e in
       record { nodes = all.nodes; own = all.own; is_own = stands_outermost all.is_own; made = all.made; whole = all.whole }
@@ -350,9 +399,9 @@ module _ (limits : Limits) where
   unfolding formula_at
   formula_at-is line tokens x e =
       bound (members_of (outer_member_at limits line) [] tokens) _ _ e (λ first p e1.
-      bound (or_alternatives limits line (list_any asks_one_use first.0) first.0 first.1) _ _ e1 (λ all q e2.
+      bound (or_alternatives limits line (list_any is_outer first.0) first.0 first.1) _ _ e1 (λ all q e2.
       bound (line_end line all.1) _ _ e2 (λ rest ends e3.
-      let a = outer_alternatives-is line tokens first all (list_any asks_one_use first.0) refl (members_of-is Outermost limits.nested (outer_member_at limits line) (outer_member_at-is line) [] tokens first p) q in
+      let a = outer_alternatives-is line tokens first all (list_any is_outer first.0) refl (members_of-is Outermost limits.nested (outer_member_at limits line) (outer_member_at-is line) [] tokens first p) q in
       read_as (λ (y : List RawFormula × List Token). Takes (SpellsWholeFormula limits y.0) tokens y.1) (all.0, rest) x e3
       (record {
         own = a.own;

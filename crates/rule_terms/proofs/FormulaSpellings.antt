@@ -1,6 +1,7 @@
 -- What the grammar spells as a formula is read, where the token behind doesn't go on with a term.
-use Rattle.rule_terms.proofs.Common.{◌≡◌, ℕ, zero, suc, ◌+◌, ◌≤◌, Bool, true, false, List, [], ◌∷◌, ◌++◌, length, Result, Ok, Err, refl, sym, ap, subst, ◌∙◌, ⊎_elim, append_assoc, length-append, arith, codes, list_any, bytes_eq, eqb-true, Opcode, Add, Sub, Mul, UDiv, SDiv, URem, SRem, Shl, LShr, AShr, And, Or, Xor, UMin, UMax, SMin, SMax, Pred, Eq, Ne, Ugt, Uge, Ult, Ule, Sgt, Sge, Slt, Sle, Function, Negate, Log2, Abs, is_digit, is_constant, and_left, list_all, ◌==◌, ◌>>=◌, line_end, Token, Line, Register, Word, Number, Mark, EndsLine, name_within-of, line_end-of, Constant, RawNode, RawFormula, Compares, Predicate, IsPowerOfTwo, IsSignBit, Sign, next_is, Standing, Outermost, Within, Level, Member, Members, Alternatives, SpellsFormula, SpellsWholeFormula, compares, tests, one_use, turns, encloses, member, both, members, either, sign_of, word_sign, opens_behind, opens_formula, comparison_at, compares_at, tests_at, one_use_at, joins, more_members, members_of, more_alternatives, alternatives_of, member_at, outer_member_at, asks_one_use, or_alternatives, formula_at, comparison_mark, comparison_in, predicate_word, predicate_node, predicate_in, last_place, EndsTerm, SpellsLeaf, SpellsTerm, SpellsWholeTerm, leaf, width, parenthesised, called, prefixed, tighter, operator_mark, operator_in, IsCalled, IsPrefix, zero-add, false≢true, list_any-append, which, same_word, RuleFault, Limits}
+use Rattle.rule_terms.proofs.Common.{◌≡◌, ℕ, zero, suc, ◌+◌, ◌≤◌, Bool, true, false, List, [], ◌∷◌, ◌++◌, length, Result, Ok, Err, refl, sym, ap, subst, ◌∙◌, ⊎_elim, append_assoc, length-append, arith, codes, list_any, bytes_eq, eqb-true, Opcode, Add, Sub, Mul, UDiv, SDiv, URem, SRem, Shl, LShr, AShr, And, Or, Xor, UMin, UMax, SMin, SMax, Pred, Eq, Ne, Ugt, Uge, Ult, Ule, Sgt, Sge, Slt, Sle, Function, Negate, Log2, Abs, is_digit, is_constant, and_left, list_all, ◌==◌, ◌>>=◌, line_end, Token, Line, Register, Word, Fact, Number, Mark, EndsLine, name_within-of, line_end-of, Constant, RawNode, RawFormula, Compares, Predicate, IsPowerOfTwo, IsSignBit, Sign, next_is, Standing, Outermost, Within, Level, Member, Members, Alternatives, SpellsFormula, SpellsWholeFormula, compares, tests, one_use, masked, non_zero, turns, encloses, member, both, members, either, sign_of, word_sign, opens_behind, opens_formula, comparison_at, compares_at, tests_at, one_use_at, masked_at, non_zero_at, joins, more_members, members_of, more_alternatives, alternatives_of, member_at, outer_member_at, is_outer, or_alternatives, formula_at, comparison_mark, comparison_in, predicate_word, predicate_node, predicate_in, last_place, EndsTerm, SpellsLeaf, SpellsTerm, SpellsWholeTerm, leaf, width, parenthesised, called, prefixed, tighter, operator_mark, operator_in, IsCalled, IsPrefix, zero-add, false≢true, list_any-append, which, same_word, RuleFault, Limits}
 use Rattle.rule_core.specs.declared.rule.Function.TheVariants.{Not}
+use Rattle.rule_tokens.specs.declared.fact.BitFact.TheVariants as facts
 use Rattle.rule_terms.specs.declared.raw.RawNode.TheVariants as raw_nodes
 use Rattle.rule_terms.specs.declared.raw.RawFormula.TheVariants as raw
 use Rattle.rule_terms.specs.declared.formula_word.Sign.TheVariants as signs
@@ -162,6 +163,8 @@ module _ (limits : Limits) where
       rw (append_assoc front (Mark (comparison_mark pred) ∷ back) rest) (term_plain left depth (Mark (comparison_mark pred) ∷ back ++ rest) ∙ says_now depth (Mark (comparison_mark pred)) (back ++ rest) (comparison_says pred))
   formula_says (tests {own = own} predicate term) depth rest = says_now depth (Word (predicate_word predicate)) ((Mark (codes "(") ∷ own ++ Mark (codes ")") ∷ []) ++ rest) (predicate_says predicate)
   formula_says (one_use le) depth rest = refl
+  formula_says (masked le term) depth rest = refl
+  formula_says (non_zero le) depth rest = refl
   formula_says (turns inside) depth rest = refl
   formula_says (encloses {own} inside) depth rest = rw (append_assoc own (Mark (codes ")") ∷ []) rest) (formula_says inside (suc depth) (Mark (codes ")") ∷ rest))
   formula_says (member one) depth rest = formula_says one depth rest
@@ -272,6 +275,8 @@ module _ (limits : Limits) where
   within_read (compares {nesting} {left = left} {right = right} {front} {back} pred l r) w line before rest e ends = compares_read nesting line before pred left right front back rest l r ends
   within_read (tests {nesting = nesting} {term = term} {own = own} predicate is) w line before rest e ends = tests_read predicate nesting line before term own rest is
   within_read (one_use le) w line before rest e ends = absurd cc
+  within_read (masked le is) w line before rest e ends = absurd cc
+  within_read (non_zero le) w line before rest e ends = absurd cc
   within_read (turns {nesting = nesting} {start = start} {nodes = nodes} {own = own} inside) w line before rest e ends =
       subst (λ (k : ℕ). member_at limits (suc nesting) line before (Mark (codes "!") ∷ own ++ rest) ≡ Ok (before ++ (nodes ++ raw.Not (last_place (k + length nodes)) ∷ []), rest)) (sym e)
       (turns_read nesting line before nodes (own ++ rest) rest (within_read inside refl line before rest e ends))
@@ -296,15 +301,15 @@ module _ (limits : Limits) where
 
   -- ---- the whole formula
 
-  -- a member that may stand inside another is no `hasOneUse`
+  -- a member that may stand within another is none of those that may not
   ended : opens_formula 0 [] ≡ false
   unfolding opens_formula
   ended = refl
 
-  skips_one_use : (line : ℕ) (before : List RawFormula) (own rest : List Token) → IsPlain own → 1 ≤ length own → outer_member_at limits line before (own ++ rest) ≡ member_at limits limits.nested line before (own ++ rest)
+  skips_outer : (line : ℕ) (before : List RawFormula) (own rest : List Token) → IsPlain own → 1 ≤ length own → outer_member_at limits line before (own ++ rest) ≡ member_at limits limits.nested line before (own ++ rest)
   unfolding outer_member_at
-  skips_one_use line before [] rest plain some = absurd (omega arith)
-  skips_one_use line before (Word word ∷ own) rest plain some = ⊎_elim
+  skips_outer line before [] rest plain some = absurd (omega arith)
+  skips_outer line before (Word word ∷ own) rest plain some = ⊎_elim
       (λ (is : bytes_eq word (codes "hasOneUse") ≡ true).
       let says : sign_of (Word word) ≡ signs.InFormula = rw (same_word word (codes "hasOneUse") is) refl in
       let opens : opens_formula 0 ((Word word ∷ own) ++ []) ≡ true = says_now 0 (Word word) (own ++ []) says in
@@ -312,10 +317,14 @@ module _ (limits : Limits) where
       absurd (false≢true (sym shut ∙ opens)))
       (λ (no : bytes_eq word (codes "hasOneUse") ≡ false). rw no refl)
       (which (bytes_eq word (codes "hasOneUse")))
-  skips_one_use line before (token ∷ own) rest plain some = refl
+  skips_outer line before (Fact fact ∷ own) rest plain some =
+      let opens : opens_formula 0 ((Fact fact ∷ own) ++ []) ≡ true = says_now 0 (Fact fact) (own ++ []) refl in
+      let shut : opens_formula 0 ((Fact fact ∷ own) ++ []) ≡ false = plain 0 [] ∙ ended in
+      absurd (false≢true (sym shut ∙ opens))
+  skips_outer line before (token ∷ own) rest plain some = refl
 
   outer_compares : (line : ℕ) (before : List RawFormula) (nesting : ℕ) (left : List RawNode) (front behind : List Token) → SpellsWholeTerm limits Constant nesting left front → outer_member_at limits line before (front ++ behind) ≡ member_at limits limits.nested line before (front ++ behind)
-  outer_compares line before nesting left front behind l = skips_one_use line before front behind (term_plain l) (spells_some limits l)
+  outer_compares line before nesting left front behind l = skips_outer line before front behind (term_plain l) (spells_some limits l)
 
   outer_tests : (line : ℕ) (before : List RawFormula) (predicate : Predicate) (tokens : List Token) → outer_member_at limits line before (Word (predicate_word predicate) ∷ tokens) ≡ member_at limits limits.nested line before (Word (predicate_word predicate) ∷ tokens)
   unfolding outer_member_at
@@ -329,6 +338,33 @@ module _ (limits : Limits) where
   one_use_read : (line : ℕ) (before : List RawFormula) (name : List ℕ) (rest : List Token) → length name ≤ limits.name_bytes → outer_member_at limits line before (Word (codes "hasOneUse") ∷ Mark (codes "(") ∷ Register name ∷ Mark (codes ")") ∷ rest) ≡ Ok (before ++ raw.HasOneUse name ∷ [], rest)
   unfolding outer_member_at one_use_at
   one_use_read line before name rest le = rw (mark_at-of limits (codes "(") line (Register name ∷ Mark (codes ")") ∷ rest) refl, name_within-of limits line name le, mark_at-of limits (codes ")") line rest refl) refl
+
+  abbrev masked_tokens : List ℕ → List Token → List Token → List Token
+  masked_tokens name own rest = Mark (codes "(") ∷ Register name ∷ Mark (codes ",") ∷ (own ++ Mark (codes ")") ∷ []) ++ rest
+
+  masked_behind : (nesting line : ℕ) (before : List RawFormula) (name : List ℕ) (term : List RawNode) (own rest : List Token) → length name ≤ limits.name_bytes → SpellsWholeTerm limits Constant nesting term own
+      → masked_at limits (suc nesting) line before (masked_tokens name own rest) ≡ Ok (before ++ raw.MaskedValueIsZero name term ∷ [], rest)
+  unfolding masked_at
+  masked_behind nesting line before name term own rest le is =
+      let behind : List Token = own ++ Mark (codes ")") ∷ rest in
+      rw (
+        append_assoc own (Mark (codes ")") ∷ []) rest,
+        mark_at-of limits (codes "(") line (Register name ∷ Mark (codes ",") ∷ behind) refl,
+        name_within-of limits line name le,
+        mark_at-of limits (codes ",") line behind refl,
+        term_at-of limits Constant nesting line term own (Mark (codes ")") ∷ rest) is (mark_ends rest).0,
+        mark_at-of limits (codes ")") line rest refl,
+      ) refl
+
+  masked_read : (nesting line : ℕ) (before : List RawFormula) (name : List ℕ) (term : List RawNode) (own rest : List Token) → suc nesting ≡ limits.nested → length name ≤ limits.name_bytes → SpellsWholeTerm limits Constant nesting term own
+      → outer_member_at limits line before (Fact facts.MaskedValueIsZero ∷ masked_tokens name own rest) ≡ Ok (before ++ raw.MaskedValueIsZero name term ∷ [], rest)
+  unfolding outer_member_at
+  masked_read nesting line before name term own rest deepest le is =
+      subst (λ (n : ℕ). masked_at limits n line before (masked_tokens name own rest) ≡ Ok (before ++ raw.MaskedValueIsZero name term ∷ [], rest)) deepest (masked_behind nesting line before name term own rest le is)
+
+  non_zero_read : (line : ℕ) (before : List RawFormula) (name : List ℕ) (rest : List Token) → length name ≤ limits.name_bytes → outer_member_at limits line before (Fact facts.IsKnownNonZero ∷ Mark (codes "(") ∷ Register name ∷ Mark (codes ")") ∷ rest) ≡ Ok (before ++ raw.IsKnownNonZero name ∷ [], rest)
+  unfolding outer_member_at non_zero_at
+  non_zero_read line before name rest le = rw (mark_at-of limits (codes "(") line (Register name ∷ Mark (codes ")") ∷ rest) refl, name_within-of limits line name le, mark_at-of limits (codes ")") line rest refl) refl
 
   deep : (nesting line : ℕ) (before : List RawFormula) (tokens : List Token) (x : List RawFormula × List Token) → nesting ≡ limits.nested → member_at limits nesting line before tokens ≡ Ok x → member_at limits limits.nested line before tokens ≡ Ok x
   deep nesting line before tokens x e is = subst (λ (n : ℕ). member_at limits n line before tokens ≡ Ok x) e is
@@ -348,6 +384,8 @@ module _ (limits : Limits) where
       let behind : List Token = (Mark (codes "(") ∷ own ++ Mark (codes ")") ∷ []) ++ rest in
       outer_tests line before predicate behind ∙ deep (suc nesting) line before (Word (predicate_word predicate) ∷ behind) (before ++ predicate_node predicate term ∷ [], rest) deepest (tests_read predicate nesting line before term own rest is)
   outer_read (one_use {name = name} le) deepest line before rest e ends = one_use_read line before name rest le
+  outer_read (masked {nesting = nesting} {name = name} {term = term} {own = own} le is) deepest line before rest e ends = masked_read nesting line before name term own rest deepest le is
+  outer_read (non_zero {name = name} le) deepest line before rest e ends = non_zero_read line before name rest le
   outer_read (turns {nesting = nesting} {start = start} {nodes = nodes} {own = own} inside) deepest line before rest e ends =
       outer_mark line before (codes "!") (own ++ rest)
       ∙ deep (suc nesting) line before (Mark (codes "!") ∷ (own ++ rest)) (before ++ (nodes ++ raw.Not (last_place (start + length nodes)) ∷ []), rest) deepest (within_read (turns {standing = Within} inside) refl line before rest e ends)
@@ -363,20 +401,22 @@ module _ (limits : Limits) where
   outer_read (members all) deepest line before rest e ends = tt
   outer_read (either l r) deepest line before rest e ends = tt
 
-  none_joined : (left right : List RawFormula) (operator : ℕ → ℕ → RawFormula) (start : ℕ) → ((a b : ℕ) → asks_one_use (operator a b) ≡ false) → list_any asks_one_use left ≡ false → list_any asks_one_use right ≡ false → list_any asks_one_use (joined operator start left right) ≡ false
+  none_joined : (left right : List RawFormula) (operator : ℕ → ℕ → RawFormula) (start : ℕ) → ((a b : ℕ) → is_outer (operator a b) ≡ false) → list_any is_outer left ≡ false → list_any is_outer right ≡ false → list_any is_outer (joined operator start left right) ≡ false
   none_joined left right operator start node l r =
       let end : List RawFormula = operator (last_place (start + length left)) (last_place (start + length left + length right)) ∷ [] in
-      list_any-append asks_one_use (left ++ right) end ∙ rw (list_any-append asks_one_use left right, l, r, node (last_place (start + length left)) (last_place (start + length left + length right))) refl
+      list_any-append is_outer (left ++ right) end ∙ rw (list_any-append is_outer left right, l, r, node (last_place (start + length left)) (last_place (start + length left + length right))) refl
 
-  -- a formula that may stand inside another has no `hasOneUse`
-  pub none_within : {standing : Standing} {level : Level} {nesting start : ℕ} {nodes : List RawFormula} {own : List Token} → SpellsFormula limits standing level nesting start nodes own → standing ≡ Within → list_any asks_one_use nodes ≡ false
+  -- a formula that may stand within another has none of those that may not
+  pub none_within : {standing : Standing} {level : Level} {nesting start : ℕ} {nodes : List RawFormula} {own : List Token} → SpellsFormula limits standing level nesting start nodes own → standing ≡ Within → list_any is_outer nodes ≡ false
   none_within (compares pred l r) w = refl
   none_within (tests IsPowerOfTwo is) w = refl
   none_within (tests IsSignBit is) w = refl
   none_within (one_use le) w = absurd cc
+  none_within (masked le is) w = absurd cc
+  none_within (non_zero le) w = absurd cc
   none_within (turns {start = start} {nodes = nodes} inside) w =
       let end : List RawFormula = raw.Not (last_place (start + length nodes)) ∷ [] in
-      list_any-append asks_one_use nodes end ∙ rw (none_within inside refl) refl
+      list_any-append is_outer nodes end ∙ rw (none_within inside refl) refl
   none_within (encloses inside) w = none_within inside refl
   none_within (member one) w = none_within one w
   none_within (both {start = start} {left = left} {right = right} l r) w = none_joined left right raw.And start (λ a b. refl) (none_within l w) (none_within r w)
@@ -385,7 +425,7 @@ module _ (limits : Limits) where
 
   -- the members of the outermost `&&`, and what may follow them
   abbrev whole_at : ℕ → List Token → Result (List RawFormula × List Token) RuleFault
-  whole_at line tokens = members_of (outer_member_at limits line) [] tokens >>= λ first. or_alternatives limits line (list_any asks_one_use first.0) first.0 first.1
+  whole_at line tokens = members_of (outer_member_at limits line) [] tokens >>= λ first. or_alternatives limits line (list_any is_outer first.0) first.0 first.1
 
   no_more : (line : ℕ) (asks : Bool) (nodes : List RawFormula) (rest : List Token) → next_is (codes "||") rest ≡ false → or_alternatives limits line asks nodes rest ≡ Ok (nodes, rest)
   no_more line true nodes rest none = refl
@@ -407,6 +447,8 @@ module _ (limits : Limits) where
   whole_within (compares pred l r) w a s deepest line rest ends none = absurd cc
   whole_within (tests predicate is) w a s deepest line rest ends none = absurd cc
   whole_within (one_use le) w a s deepest line rest ends none = absurd cc
+  whole_within (masked le is) w a s deepest line rest ends none = absurd cc
+  whole_within (non_zero le) w a s deepest line rest ends none = absurd cc
   whole_within (turns inside) w a s deepest line rest ends none = absurd cc
   whole_within (encloses inside) w a s deepest line rest ends none = absurd cc
   whole_within (member one) w a s deepest line rest ends none = absurd cc
@@ -421,13 +463,15 @@ module _ (limits : Limits) where
   whole_outer (members {nesting = nesting} {nodes = nodes} {own = own} all) a s deepest line rest ends =
       let outer : SpellsFormula limits Outermost Members nesting 0 nodes own = subst (λ (k : ℕ). SpellsFormula limits Outermost Members nesting k nodes own) s (stands_outermost limits all) in
       let line_is = line_behind rest ends in
-      rw (outer_members line nesting nodes own rest outer deepest line_is.0 line_is.1) (no_more line (list_any asks_one_use nodes) nodes rest line_is.2)
+      rw (outer_members line nesting nodes own rest outer deepest line_is.0 line_is.1) (no_more line (list_any is_outer nodes) nodes rest line_is.2)
   whole_outer (either {start = start} {left = left} {right = right} l r) a s deepest line rest ends =
       let line_is = line_behind rest ends in
       whole_within (either {standing = Within} l r) refl refl s deepest line rest line_is.0 line_is.1 ∙ no_mark (codes "||") (joins raw.Or (members_of (member_at limits limits.nested line))) (joined raw.Or start left right) rest line_is.2
   whole_outer (compares pred l r) a s deepest line rest ends = absurd cc
   whole_outer (tests predicate is) a s deepest line rest ends = absurd cc
   whole_outer (one_use le) a s deepest line rest ends = absurd cc
+  whole_outer (masked le is) a s deepest line rest ends = absurd cc
+  whole_outer (non_zero le) a s deepest line rest ends = absurd cc
   whole_outer (turns inside) a s deepest line rest ends = absurd cc
   whole_outer (encloses inside) a s deepest line rest ends = absurd cc
   whole_outer (member one) a s deepest line rest ends = absurd cc
@@ -436,7 +480,7 @@ module _ (limits : Limits) where
   pub formula_at-of : (line : ℕ) (nodes : List RawFormula) (own rest : List Token) → SpellsWholeFormula limits nodes own → EndsLine rest → formula_at limits line (own ++ rest) ≡ Ok (nodes, rest)
   unfolding formula_at
   formula_at-of line nodes own rest is ends =
-      through (members_of (outer_member_at limits line) [] (own ++ rest)) (λ first. or_alternatives limits line (list_any asks_one_use first.0) first.0 first.1) (λ whole. line_end line whole.1 >>= λ behind. Ok (whole.0, behind)) (nodes, rest) (whole_outer is refl refl refl line rest ends)
+      through (members_of (outer_member_at limits line) [] (own ++ rest)) (λ first. or_alternatives limits line (list_any is_outer first.0) first.0 first.1) (λ whole. line_end line whole.1 >>= λ behind. Ok (whole.0, behind)) (nodes, rest) (whole_outer is refl refl refl line rest ends)
       ∙ rw (line_end-of line rest ends) refl
     where
       through : {A B C : Type 0} (r : Result A RuleFault) (f : A → Result B RuleFault) (g : B → Result C RuleFault) (y : B) → (r >>= f) ≡ Ok y → (r >>= λ x. (f x >>= g)) ≡ g y

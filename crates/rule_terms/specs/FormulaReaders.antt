@@ -8,9 +8,11 @@ use Rattle.rule_tokens.specs.declared.fault.RuleFaultKind.TheVariants.{Syntax, T
 use Rattle.rule_tokens.specs.RuleFaults.{RuleFault}
 use Rattle.rule_tokens.specs.Steps.{◌>>=◌}
 use Rattle.rule_tokens.specs.PartReaders.{Read, fault, unexpected, name_within, line_end}
-use Rattle.rule_tokens.specs.Tokens.{Token, Line, Register, Word, Mark}
+use Rattle.rule_tokens.specs.declared.fact.BitFact.{BitFact}
+use Rattle.rule_tokens.specs.declared.fact.BitFact.TheVariants as facts
+use Rattle.rule_tokens.specs.Tokens.{Token, Line, Register, Word, Fact, Mark}
 use Rattle.rule_terms.specs.declared.raw.RawFormula.{RawFormula}
-use Rattle.rule_terms.specs.declared.raw.RawFormula.TheVariants.{Compare, HasOneUse, Not, And, Or}
+use Rattle.rule_terms.specs.declared.raw.RawFormula.TheVariants.{Compare, HasOneUse, MaskedValueIsZero, IsKnownNonZero, Not, And, Or}
 use Rattle.rule_terms.specs.declared.formula_word.Opening.{Opening}
 use Rattle.rule_terms.specs.declared.formula_word.Opening.TheVariants.{Turns, Encloses, Tests, Compares}
 use Rattle.rule_terms.specs.declared.formula_word.Predicate.{Predicate}
@@ -39,6 +41,7 @@ abbrev pub sign_of : Token → Sign
 sign_of (Line number) = signs.LineEnds
 sign_of (Mark mark) = mark_sign mark
 sign_of (Word word) = word_sign word
+sign_of (Fact fact) = signs.InFormula
 sign_of token = signs.Plain
 
 -- Whether the open `(` encloses a formula and not a term: a token that stands in formulas alone comes before its `)`
@@ -115,6 +118,29 @@ one_use_at limits line before tokens = do
   rest ← mark_at (codes ")") line register.1
   Ok (before ++ HasOneUse register.0 ∷ [], rest)
 
+-- a register and a term in parentheses, behind `MaskedValueIsZero`
+unfoldable pub masked_at : Limits → ℕ → ℕ → Reader (List RawFormula)
+masked_at limits nesting line before tokens = do
+  opened ← mark_at (codes "(") line tokens
+  inside ← deeper line nesting
+  register ← register_at limits line opened
+  behind ← mark_at (codes ",") line register.1
+  term ← term_at limits Constant inside line behind
+  rest ← mark_at (codes ")") line term.1
+  Ok (before ++ MaskedValueIsZero register.0 term.0 ∷ [], rest)
+
+-- a register in parentheses, behind `isKnownNonZero`
+unfoldable pub non_zero_at : Limits → ℕ → Reader (List RawFormula)
+non_zero_at limits line before tokens = do
+  opened ← mark_at (codes "(") line tokens
+  register ← register_at limits line opened
+  rest ← mark_at (codes ")") line register.1
+  Ok (before ++ IsKnownNonZero register.0 ∷ [], rest)
+
+abbrev pub fact_at : Limits → BitFact → ℕ → Reader (List RawFormula)
+fact_at limits facts.MaskedValueIsZero line before tokens = masked_at limits limits.nested line before tokens
+fact_at limits facts.IsKnownNonZero line before tokens = non_zero_at limits line before tokens
+
 -- ---- formulas
 
 -- the part is read, and its node joined by the operator with what was read before
@@ -164,14 +190,17 @@ member_at limits (suc nesting) line before tokens = begun_at limits (opening_at 
 -- a member of the outermost `&&`, where `hasOneUse` may stand
 unfoldable pub outer_member_at : Limits → ℕ → Reader (List RawFormula)
 outer_member_at limits line before (Word word ∷ rest) = if bytes_eq word (codes "hasOneUse") then one_use_at limits line before rest else member_at limits limits.nested line before (Word word ∷ rest)
+outer_member_at limits line before (Fact fact ∷ rest) = fact_at limits fact line before rest
 outer_member_at limits line before tokens = member_at limits limits.nested line before tokens
 
--- `hasOneUse` is among the nodes
-abbrev pub asks_one_use : RawFormula → Bool
-asks_one_use (HasOneUse name) = true
-asks_one_use node = false
+-- the node may stand as a member of the outermost `&&` alone
+abbrev pub is_outer : RawFormula → Bool
+is_outer (HasOneUse name) = true
+is_outer (MaskedValueIsZero name term) = true
+is_outer (IsKnownNonZero name) = true
+is_outer node = false
 
--- `||` follows only where the conjunction before it has no `hasOneUse`
+-- `||` may only go on with what has none of these in it
 abbrev pub or_alternatives : Limits → ℕ → Bool → Reader (List RawFormula)
 or_alternatives limits line true before tokens = Ok (before, tokens)
 or_alternatives limits line false before tokens = more_alternatives (member_at limits limits.nested line) before tokens
@@ -180,6 +209,6 @@ or_alternatives limits line false before tokens = more_alternatives (member_at l
 unfoldable pub formula_at : Limits → ℕ → List Token → Read (List RawFormula)
 formula_at limits line tokens = do
   first ← members_of (outer_member_at limits line) [] tokens
-  whole ← or_alternatives limits line (list_any asks_one_use first.0) first.0 first.1
+  whole ← or_alternatives limits line (list_any is_outer first.0) first.0 first.1
   rest ← line_end line whole.1
   Ok (whole.0, rest)

@@ -2,10 +2,11 @@
 -- and names their places, counted from 0 in the whole formula.
 use Rattle.std.specs.Prelude.{ℕ, suc, ◌+◌, ◌≤◌, List, [], ◌∷◌, ◌++◌, length, codes}
 use Rattle.rule_tokens.specs.Limits.{Limits}
-use Rattle.rule_tokens.specs.Tokens.{Token, Word, Register, Mark}
+use Rattle.rule_tokens.specs.declared.fact.BitFact.TheVariants as facts
+use Rattle.rule_tokens.specs.Tokens.{Token, Word, Fact, Register, Mark}
 use Rattle.rule_terms.specs.declared.raw.RawNode.{RawNode}
 use Rattle.rule_terms.specs.declared.raw.RawFormula.{RawFormula}
-use Rattle.rule_terms.specs.declared.raw.RawFormula.TheVariants.{Compare, HasOneUse, Not, And, Or}
+use Rattle.rule_terms.specs.declared.raw.RawFormula.TheVariants.{Compare, HasOneUse, MaskedValueIsZero, IsKnownNonZero, Not, And, Or}
 use Rattle.rule_terms.specs.declared.formula_word.Predicate.{Predicate}
 use Rattle.rule_terms.specs.declared.place.TermPlace.TheVariants.{Constant}
 use Rattle.rule_terms.specs.Grammar.{last_place, SpellsWholeTerm}
@@ -43,6 +44,13 @@ pub data SpellsFormula (limits : Limits) : Standing → Level → ℕ → ℕ �
   -- hasOneUse(%t), as a member of the outermost `&&` alone
   one_use : {nesting start : ℕ} {name : List ℕ} → length name ≤ limits.name_bytes
       → SpellsFormula limits Outermost Member nesting start (HasOneUse name ∷ []) (Word (codes "hasOneUse") ∷ Mark (codes "(") ∷ Register name ∷ Mark (codes ")") ∷ [])
+  -- MaskedValueIsZero(%x, t) and isKnownNonZero(%x), as members of the outermost `&&` alone
+  masked : {nesting start : ℕ} {name : List ℕ} {term : List RawNode} {own : List Token} → length name ≤ limits.name_bytes
+      → SpellsWholeTerm limits Constant nesting term own
+      → SpellsFormula limits Outermost Member (suc nesting) start (MaskedValueIsZero name term ∷ [])
+      (Fact facts.MaskedValueIsZero ∷ Mark (codes "(") ∷ Register name ∷ Mark (codes ",") ∷ own ++ Mark (codes ")") ∷ [])
+  non_zero : {nesting start : ℕ} {name : List ℕ} → length name ≤ limits.name_bytes
+      → SpellsFormula limits Outermost Member nesting start (IsKnownNonZero name ∷ []) (Fact facts.IsKnownNonZero ∷ Mark (codes "(") ∷ Register name ∷ Mark (codes ")") ∷ [])
   -- ! f
   turns : {standing : Standing} {nesting start : ℕ} {nodes : List RawFormula} {own : List Token}
       → SpellsFormula limits Within Member nesting start nodes own

@@ -12,32 +12,19 @@ ghost use Rattle.rule_terms.specs.FormulaReaders as reading;
 ghost use Rattle.rule_terms.specs.Grammar.{last_place};
 ghost use Rattle.rule_tokens.specs.Limits.{rule_limits};
 
+use crate::fact_reading::fact;
 use crate::formula_word::{Opening, Predicate, comparison_of, opening_of, predicate_node};
+use crate::parts::{MOST_NESTED, deeper, register};
 use crate::place::TermPlace;
 use crate::raw::RawFormula;
 use crate::reading::term;
 use crate::start::mark;
 use crate::take::takes;
-use lists::{List, Text};
+use lists::List;
 use ops::Pred;
 use ops::keywords::is;
-use rule_tokens::{RuleError, RuleFault, RuleFaultKind, Token, line_end, name_within, unexpected};
+use rule_tokens::{RuleError, RuleFault, RuleFaultKind, Token, line_end, unexpected};
 use std::alloc::Global;
-
-/// The most open parentheses and pending unary operators at a token.
-const MOST_NESTED: u32 = 32;
-
-/// One level of nesting less; none left is a fault.
-fn deeper(line: usize, nesting: u32) -> Result<u32, RuleFault>
-    ensures { Reads (λ x. x) result (reading.deeper line nesting) }
-{
-    if nesting == 0 {
-        let kind = RuleFaultKind::TooMany;
-        Err(RuleFault { line, kind })
-    } else {
-        Ok(nesting - 1)
-    }
-}
 
 /// The place of the last node, saturated to `u32`.
 fn last_place(nodes: &List<RawFormula>) -> u32
@@ -105,19 +92,6 @@ fn tests(
     mark(")", line, tokens)?;
     nodes.push(predicate_node(predicate, term))?;
     Ok(())
-}
-
-/// Reads a register.
-fn register(alloc: Global, line: usize, tokens: &mut &[Token<'_>]) -> Result<Text, RuleError>
-    ensures { Gives (λ x. (x, seen tokens.new.now)) result (reading.register_at rule_limits line (seen tokens.old.now)) }
-{
-    match *tokens {
-        [Token::Register(name), rest @ ..] => {
-            *tokens = rest;
-            name_within(alloc, line, name)
-        }
-        _ => Err(unexpected(line, *tokens).into()),
-    }
 }
 
 /// Reads a register in parentheses, behind `hasOneUse`.
@@ -266,6 +240,11 @@ fn outer_member(
             *tokens = rest;
             one_use(alloc, line, nodes, tokens)
         }
+        [Token::Fact(found), rest @ ..] => {
+            let found = *found;
+            *tokens = rest;
+            fact(alloc, found, line, nodes, tokens)
+        }
         _ => member(alloc, MOST_NESTED, line, nodes, tokens),
     }
 }
@@ -288,13 +267,23 @@ fn more_outer_members(
     Ok(())
 }
 
-/// Whether `hasOneUse` is among the nodes.
-fn asks_one_use(nodes: &[RawFormula]) -> bool
-    ensures { result ≡ list_any reading.asks_one_use nodes.now }
+/// Whether a node is among them that may stand as a member of the outermost `&&` alone.
+fn has_outer(nodes: &[RawFormula]) -> bool
+    ensures { result ≡ list_any reading.is_outer nodes.now }
 {
-    nodes
-        .iter()
-        .any(|node| matches!(node, RawFormula::HasOneUse(_)))
+    nodes.iter().any(|node| is_outer(node))
+}
+
+/// Whether a node may stand as a member of the outermost `&&` alone.
+fn is_outer(node: &RawFormula) -> bool
+    ensures { result ≡ reading.is_outer node.now }
+{
+    match node {
+        RawFormula::HasOneUse(_)
+        | RawFormula::MaskedValueIsZero(_, _)
+        | RawFormula::IsKnownNonZero(_) => true,
+        _ => false,
+    }
 }
 
 /// Reads the formula of a precondition, behind `Pre:`, and the end of its line. The answer is its nodes, each behind
@@ -314,7 +303,7 @@ pub fn formula(
     let mut nodes = List::new(alloc);
     outer_member(alloc, line, &mut nodes, tokens)?;
     more_outer_members(alloc, line, &mut nodes, tokens)?;
-    if !asks_one_use(nodes.as_slice()) {
+    if !has_outer(nodes.as_slice()) {
         more_alternatives(alloc, MOST_NESTED, line, &mut nodes, tokens)?;
     }
     line_end(line, *tokens)?;

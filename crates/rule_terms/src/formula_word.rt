@@ -155,6 +155,7 @@ fn sign_of(token: &Token<'_>) -> Sign
         Token::Line(_) => Sign::LineEnds,
         Token::Mark(mark) => mark_sign(mark),
         Token::Word(word) => word_sign(word),
+        Token::Fact(_) => Sign::InFormula,
         _ => Sign::Plain,
     }
 }

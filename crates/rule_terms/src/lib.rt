@@ -1,9 +1,11 @@
 //! The parsers of terms and formulas of rules.
 #![tactic(auto)]
 
+mod fact_reading;
 mod formula_reading;
 mod formula_word;
 mod laws;
+mod parts;
 mod place;
 mod raw;
 mod reading;

@@ -35,6 +35,10 @@ pub enum RawFormula {
     IsSignBit(RawTerm),
     /// `hasOneUse`, of the register by its name.
     HasOneUse(Text),
+    /// `MaskedValueIsZero`, of the register by its name and the mask.
+    MaskedValueIsZero(Text, RawTerm),
+    /// `isKnownNonZero`, of the register by its name.
+    IsKnownNonZero(Text),
     Not(u32),
     And(u32, u32),
     Or(u32, u32),

@@ -4,6 +4,7 @@ pub use Rattle.refusal.specs.declared.refusal.Refusal
 pub use Rattle.scan.specs.Bytes
 pub use Rattle.scan.specs.Names
 pub mod Contexts
+pub mod Facts
 pub mod RuleFaults
 pub mod Limits
 pub mod Numbers

@@ -2,7 +2,7 @@
 use Rattle.std.specs.Prelude.{List, map}
 use Rattle.rule_tokens.specs.declared.token.Token.{Token as Scanned}
 use Rattle.rule_tokens.specs.declared.token.Token.TheVariants as scanned
-use Rattle.rule_tokens.specs.Tokens.{Token, Line, Head, Name, Register, Word, Opcode, Number, Arrow, Mark, Other, Bad, Excess}
+use Rattle.rule_tokens.specs.Tokens.{Token, Line, Head, Name, Register, Word, Opcode, Fact, Number, Arrow, Mark, Other, Bad, Excess}
 
 abbrev pub seen_token : Scanned → Token
 seen_token (scanned.Line number) = Line number
@@ -11,6 +11,7 @@ seen_token (scanned.Name text) = Name text.now
 seen_token (scanned.Register name) = Register name.now
 seen_token (scanned.Word text) = Word text.now
 seen_token (scanned.Opcode text) = Opcode text.now
+seen_token (scanned.Fact fact) = Fact fact
 seen_token (scanned.Number text) = Number text.now
 seen_token scanned.Arrow = Arrow
 seen_token (scanned.Mark text) = Mark text.now

@@ -1,5 +1,5 @@
 -- The tokens of a rule file in order, and which text they are of.
-use Rattle.std.specs.Prelude.{◌≡◌, ◌≢◌, ℕ, ◌+◌, ◌==◌, Bool, if◌then◌else◌, List, [], ◌∷◌, length, drop, codes}
+use Rattle.std.specs.Prelude.{◌≡◌, ◌≢◌, ℕ, ◌+◌, ◌==◌, Bool, true, false, if◌then◌else◌, List, [], ◌∷◌, length, drop, Option, Some, None, codes}
 use Rattle.std.specs.Str.{bytes_eq}
 use Rattle.scan.specs.declared.rule_token.RuleKind.{RuleKind}
 use Rattle.scan.specs.declared.rule_token.RuleKind.TheVariants as kinds
@@ -10,7 +10,9 @@ use Rattle.scan.specs.Lines.{between}
 use Rattle.scan.specs.Names.{IsNameNext, IsBadInRest, rest_of_line}
 use Rattle.scan.specs.RuleTokens.{IsNextRuleToken, IsBadNext}
 use Rattle.rule_tokens.specs.declared.context.Context.{Context}
+use Rattle.rule_tokens.specs.declared.fact.BitFact.{BitFact}
 use Rattle.rule_tokens.specs.Contexts.{at_start, context_behind, behind_name, is_opcode}
+use Rattle.rule_tokens.specs.Facts.{fact_in}
 
 -- a token, with its bytes where they tell more than its kind
 pub data Token : Type 0 where
@@ -25,6 +27,8 @@ pub data Token : Type 0 where
   Word : (text : List ℕ) → Token
   -- a word that is an opcode where the same bytes elsewhere are a function of terms (`abs`)
   Opcode : (text : List ℕ) → Token
+  -- a word that is a fact on the bits of a register
+  Fact : (fact : BitFact) → Token
   Number : (text : List ℕ) → Token
   Arrow : Token
   Mark : (text : List ℕ) → Token
@@ -36,9 +40,11 @@ pub data Token : Type 0 where
   -- and ends the list of tokens
   Excess : Token
 
--- a word, as an opcode or not
-abbrev pub word_of : Bool → List ℕ → Token
-word_of opcode word = if opcode then Opcode word else Word word
+-- a word, which is a fact, or an opcode, or neither
+abbrev pub word_of : Option BitFact → Bool → List ℕ → Token
+word_of (Some fact) opcode word = Fact fact
+word_of None true word = Opcode word
+word_of None false word = Word word
 
 -- the token of a kind other than the end, with its bytes; `called` where `(` stands directly behind it
 abbrev pub token_of : Context → Bool → RuleKind → List ℕ → Token
@@ -46,7 +52,7 @@ token_of c called kinds.End bytes = Other
 token_of c called kinds.Other bytes = Other
 token_of c called kinds.Head bytes = Head bytes
 token_of c called kinds.Register bytes = Register (drop 1 bytes)
-token_of c called kinds.Word bytes = word_of (is_opcode c called bytes) bytes
+token_of c called kinds.Word bytes = word_of (fact_in c.version bytes) (is_opcode c called bytes) bytes
 token_of c called kinds.Number bytes = Number bytes
 token_of c called kinds.Arrow bytes = Arrow
 token_of c called kinds.Mark bytes = Mark bytes

@@ -4,6 +4,7 @@
 
 mod context;
 mod end_of_line;
+mod fact;
 mod fault;
 mod name;
 mod number;
@@ -15,6 +16,7 @@ mod width;
 
 pub use context::{Before, Context};
 pub use end_of_line::line_end;
+pub use fact::BitFact;
 pub use fault::{RuleError, RuleFault, RuleFaultKind};
 pub use name::name_within;
 pub use number::{all_digits, are_digits, literal, magnitude};

@@ -1,5 +1,7 @@
 //! Tokens.
 
+use crate::fact::BitFact;
+
 /// A token of a rule file, with its bytes where they tell more than its kind.
 #[derive(Clone, Copy, Debug)]
 pub enum Token<'a> {
@@ -14,6 +16,8 @@ pub enum Token<'a> {
     Word(&'a [u8]),
     /// A word that is an opcode where the same bytes elsewhere are a function of terms (`abs`).
     Opcode(&'a [u8]),
+    /// A word that is a fact on the bits of a register.
+    Fact(BitFact),
     Number(&'a [u8]),
     /// `=>`.
     Arrow,

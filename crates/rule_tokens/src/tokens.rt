@@ -3,11 +3,14 @@
 ghost use Rattle.std.specs.Prelude.{◌≡◌, ◌≢◌, ◌≤◌, ◌+◌, ◌++◌, [], length, IfOk, IfErr, OnOk, IfSome, IfNone, OnSome};
 ghost use Rattle.scan.specs.declared.rule_token.RuleKind.TheVariants as kinds;
 ghost use Rattle.scan.specs.Names.{IsBadInRest, rest_of_line};
+ghost use Rattle.rule_tokens.specs.Contexts.{is_opcode};
+ghost use Rattle.rule_tokens.specs.Facts.{fact_in};
 ghost use Rattle.rule_tokens.specs.SeenTokens.{seen, seen_token};
 ghost use Rattle.rule_tokens.specs.Tokens as relation;
 ghost use Rattle.rule_tokens.specs.Tokens.{AreTokens, IsNameToken, is_called, token_on};
 
 use crate::context::Context;
+use crate::fact::fact_of;
 use crate::token::Token;
 use ops::keywords::is;
 use scan::{BadByte, Cursor, RuleKind};
@@ -30,6 +33,17 @@ fn is_called(text: &[u8], at: usize) -> bool
     matches!(&text[at..], [b'(', ..])
 }
 
+/// The token of a word, where `(` stands directly behind it or not.
+fn word_of(context: Context, called: bool, bytes: &[u8]) -> Token<'_>
+    ensures { seen_token result ≡ relation.word_of (fact_in context.version bytes.now) (is_opcode context called bytes.now) bytes.now }
+{
+    match fact_of(context.version, bytes) {
+        Some(fact) => Token::Fact(fact),
+        None if context.takes_as_opcode(called, bytes) => Token::Opcode(bytes),
+        None => Token::Word(bytes),
+    }
+}
+
 /// The token of a kind, with its bytes; `called` where `(` stands directly behind it. The end of a text is no token.
 fn token_of(context: Context, called: bool, kind: RuleKind, bytes: &[u8]) -> Option<Token<'_>>
     ensures end { IfNone result (kind ≡ kinds.End) }
@@ -44,8 +58,7 @@ fn token_of(context: Context, called: bool, kind: RuleKind, bytes: &[u8]) -> Opt
             [_, name @ ..] => name,
             [] => bytes,
         })),
-        RuleKind::Word if context.takes_as_opcode(called, bytes) => Some(Token::Opcode(bytes)),
-        RuleKind::Word => Some(Token::Word(bytes)),
+        RuleKind::Word => Some(word_of(context, called, bytes)),
         RuleKind::Number => Some(Token::Number(bytes)),
         RuleKind::Arrow => Some(Token::Arrow),
         RuleKind::Mark => Some(Token::Mark(bytes)),

@@ -9,7 +9,7 @@ use crate::number::{are_digits, magnitude};
 #[derive(Clone, Copy, PartialEq, Eq)]
 pub enum Version {
     One,
-    /// The first one with `freeze` and intrinsics.
+    /// The first one with `freeze`, intrinsics and facts on bits.
     Two,
 }
 

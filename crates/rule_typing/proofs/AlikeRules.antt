@@ -1,6 +1,6 @@
 -- What makes a rule an `IsRule` doesn't speak of its classes: of two rules that differ in nothing else, the second is
 -- one where the first is.
-use Rattle.rule_typing.proofs.Common.{◌≡◌, ℕ, suc, ◌≤◌, List, [], ◌∷◌, ◌++◌, length, map, Some, refl, sym, ap, subst, ◌∙◌, arith, slice_get, Contains, flat_map, sum_by, range_with_len, sum_by-cons, length-map, map-append, Rule, Statement, Op, Binary, Compare, Unary, Select, Convert, Freeze, Copy, Operand, Argument, Choice, Register, Term, Node, Formula, operands_of, operands_among, operands_in, terms_in, choices_among, IsRule, SourceMayRead, TargetMayRead, IsBeforeRoot, HasKnownWidth, MayBeTerm, MayBeWitness, MayBeFormula, FlagsFitOp, MayStandInSource, ReadsNoUndefAlone, ChoicesInOrder, TargetMayMeasure, FormulaMayMeasure, argument_weight, node_weight, term_weight, formula_weight, weight_of, names_of, ReadsOnly, StandsAt, AreDistinct, joint_of, OneUseIsOutermost, IsOperandOf, StandsIn, NamesWidth, OwnsOperands, AreLastNodes, mapped_op, mapped_statement, mapped_node, mapped_term}
+use Rattle.rule_typing.proofs.Common.{◌≡◌, ℕ, suc, ◌≤◌, List, [], ◌∷◌, ◌++◌, length, map, Some, refl, sym, ap, subst, ◌∙◌, arith, slice_get, Contains, flat_map, sum_by, range_with_len, sum_by-cons, length-map, map-append, Rule, Statement, Op, Binary, Compare, Unary, Select, Convert, Freeze, Copy, Operand, Argument, Choice, Register, Term, Node, Formula, operands_of, operands_among, operands_in, terms_in, choices_among, IsRule, SourceMayRead, TargetMayRead, IsBeforeRoot, HasKnownWidth, MayBeTerm, MayBeWitness, MayBeFormula, FlagsFitOp, MayStandInSource, ReadsNoUndefAlone, ChoicesInOrder, TargetMayMeasure, FormulaMayMeasure, argument_weight, node_weight, term_weight, formula_weight, weight_of, names_of, ReadsOnly, StandsAt, AreDistinct, joint_of, OuterIsOutermost, IsOperandOf, StandsIn, NamesWidth, OwnsOperands, AreLastNodes, mapped_op, mapped_statement, mapped_node, mapped_term}
 use Rattle.rule_core.specs.declared.rule.Argument.TheVariants as arguments
 use Rattle.rule_core.specs.declared.rule.Register.TheVariants as registers
 use Rattle.rule_core.specs.declared.rule.Node.TheVariants as nodes
@@ -237,6 +237,7 @@ module _ (r s : Rule) (inputs : length r.inputs ≡ length s.inputs) (constants 
   formula_measures across (formulas.Compare pred a b) may = ((λ x names. before_root x (may.0 x (across a x names))), λ x names. before_root x (may.1 x (across b x names)))
   formula_measures across (formulas.IsPowerOfTwo a) may = λ x names. before_root x (may x (across a x names))
   formula_measures across (formulas.IsSignBit a) may = λ x names. before_root x (may x (across a x names))
+  formula_measures across (formulas.MaskedValueIsZero y a) may = λ x names. before_root x (may x (across a x names))
   formula_measures across f may = tt
 
   source_ops : (k : ℕ) (op : Op) → MayStandInSource r k op → MayStandInSource s k op
@@ -272,6 +273,8 @@ module _ (r s : Rule) (inputs : length r.inputs ≡ length s.inputs) (constants 
   as_formula n (formulas.IsPowerOfTwo a) may = omega arith
   as_formula n (formulas.IsSignBit a) may = omega arith
   as_formula n (formulas.HasOneUse j) may = omega arith
+  as_formula n (formulas.MaskedValueIsZero x a) (known, there) = (before_root x known, omega arith)
+  as_formula n (formulas.IsKnownNonZero x) may = before_root x may
   as_formula n (formulas.Not a) may = may
   as_formula n (formulas.And a b) may = may
   as_formula n (formulas.Or a b) may = may
@@ -342,7 +345,7 @@ IsRule-alike r s same checked =
           let (u', there, e) = same_get bare_statement r.source s.source j u source at in
           checked.temporaries_stay j u' (omega arith) there (subst (λ l. Contains l u'.name) (sym target_names) (subst (λ n. Contains (names_of s.target) n) (ap (λ (x : Statement). x.name) (sym e)) assigned));
       temporaries_read = λ j less. let h = checked.temporaries_read j (omega arith) in (h.0, stands_at r s same h.0 (arguments.Register (registers.Source j)) h.1);
-      one_use = subst (λ l. OneUseIsOutermost (map joint_of l)) precondition checked.one_use;
+      outer = subst (λ l. OuterIsOutermost (map joint_of l)) precondition checked.outer;
       source_ops = ops_carry (MayStandInSource r) (MayStandInSource s) (source_op r) (source_ops r s counts constant_counts sources targets term_counts choice_counts) r.source s.source source checked.source_ops;
       source_flags = carries FlagsFitOp flags_op r.source s.source source checked.source_flags;
       target_flags = carries FlagsFitOp flags_op r.target s.target target checked.target_flags;

@@ -3,8 +3,8 @@ pub use Rattle.std.proofs.Common.{AllPairs, Bool, Contains, IfNone, IfSome, IsTr
 pub use Rattle.ops.specs.declared.conversion.Cast.TheVariants.{SExt, Trunc, ZExt}
 pub use Rattle.rule_core.proofs.Members.{Contains-flat_map, Contains-from_get, choice_opens, class_stands, constant_term, freezes, get-append_left, get-append_right, measured_class_stands, operand_class_stands, operand_stands, reads_undef, source_statement, target_statement, term_class_stands}
 pub use Rattle.rule_core.specs.Checks.{AreDistinct, ChoicesInOrder, FlagsFitOp, FormulaMayMeasure, HasKnownWidth, IsBeforeRoot, IsRule, MayBeFormula, MayBeTerm, MayBeWitness, MayStandInSource, ReadsNoUndefAlone, ReadsOnly, SourceMayRead, StandsAt, TargetMayMeasure, TargetMayRead, argument_weight, formula_weight, names_of, node_weight, term_weight, weight_of}
-pub use Rattle.rule_core.specs.FormulaNodes.{OneUseIsOutermost, joint_of}
-pub use Rattle.rule_core.specs.Positions.{Fixed, IsStatementOf, IsTermOf, Line, Names, Smaller, TermLine, assigns_root, binary_left, binary_right, cast_to, choices_among, choices_of, chooses, classes_of, classes_of_node, classes_of_statement, classes_of_term, compared, compared_terms, comparison, condition, copy, freeze, frozen_in, left, measures, name, one_operand, operands_among, operands_in, operands_of, reads, reads_constant, right, select_false, select_true, sign_extended, source_assigns, target_assigns, term, term_choice, term_constant, term_register, terms_in, truncated, truth, unary, undef_in, witness, witness_term, written, zero_extended}
+pub use Rattle.rule_core.specs.FormulaNodes.{OuterIsOutermost, joint_of}
+pub use Rattle.rule_core.specs.Positions.{Fixed, IsStatementOf, IsTermOf, Line, Names, Smaller, TermLine, assigns_root, binary_left, binary_right, cast_to, choices_among, choices_of, chooses, classes_of, classes_of_node, classes_of_statement, classes_of_term, compared, compared_terms, comparison, condition, copy, freeze, frozen_in, left, masked, measures, name, one_operand, operands_among, operands_in, operands_of, reads, reads_constant, right, select_false, select_true, sign_extended, source_assigns, target_assigns, term, term_choice, term_constant, term_register, terms_in, truncated, truth, unary, undef_in, witness, witness_term, written, zero_extended}
 pub use Rattle.rule_core.specs.TermNodes.{AreLastNodes, IsOperandOf, NamesWidth, OwnsOperands, StandsIn}
 pub use Rattle.rule_core.specs.Typing.{FitsLiteral, IsTyping}
 pub use Rattle.rule_core.specs.declared.rule.Argument.{Argument}
@@ -27,7 +27,7 @@ pub use Rattle.rule_typing.specs.FixedWidths.{FixesWidth, IsBelow, IsBroken, Mee
 pub use Rattle.rule_typing.specs.Laws.{RulesHaveClasses}
 pub use Rattle.rule_typing.specs.Relabelled.{IsRenumbered, mapped, mapped_node, mapped_op, mapped_statement, mapped_term, numbered, numbered_from, numbered_node, numbered_op, numbered_statement, numbered_statements, numbered_term, numbered_terms, positions_among, positions_of, renamed}
 pub use Rattle.rule_typing.specs.Solutions.{AreLeast, AreOf, AtMost, FindsLeast, GoesOn, Has, HasExactly, IsLeast, MeetsSmaller, Solves, SolvesBehind, SolvesFrom}
-pub use Rattle.rule_typing.specs.Splits.{ChoicesLine, FindsOther, IsMerged, IsPairIn, IsRead, LineOf, NamingOf, OperandsLine, PairOf, RootLine, Splits, StatementLine, StatementsLine, TermsLine, assigned_class, choice_naming, choice_pairs, chosen_class, formula_pairs, last_class, name_of, node_class, node_naming, node_pairs, op_pairs, operand_naming, operand_pairs, paired, root_class, statement_pairs, term_class, term_naming, term_pairs}
+pub use Rattle.rule_typing.specs.Splits.{ChoicesLine, FindsOther, FormulasLine, IsMerged, IsPairIn, IsRead, LineOf, NamingOf, OperandsLine, PairOf, RootLine, Splits, StatementLine, StatementsLine, TermsLine, assigned_class, choice_naming, choice_pairs, chosen_class, formula_naming, formula_pairs, last_class, name_of, node_class, node_naming, node_pairs, op_pairs, operand_naming, operand_pairs, paired, root_class, statement_pairs, term_class, term_naming, term_pairs}
 pub use Rattle.rule_typing.specs.declared.classes.ClassFault.{ClassFault}
 pub use Rattle.rule_typing.specs.declared.half.Half.{Half}
 pub use Rattle.rule_typing.specs.declared.relabelling.Renaming.TheVariants.{Merge, Swap}

@@ -1,7 +1,8 @@
 -- The equality constraints of a rule, taken apart: pairs of its statements, operands, choices, nodes and comparisons,
 -- and names with two positions.
-use Rattle.rule_typing.proofs.Common.{◌≡◌, ◌⊎◌, inl, inr, ℕ, List, [], ◌∷◌, ◌++◌, get_or, Option, None, Some, refl, sym, ap, subst, ◌∙◌, arith, slice_get, Contains, option_map, option_and_then, same_Some, Contains-append_left, Contains-append_right, Contains-append_cases, Rule, Statement, Op, Binary, Compare, Unary, Select, Convert, Freeze, Copy, Operand, Argument, Choice, Name, Term, Node, Formula, operands_among, operands_in, choices_among, IsStatementOf, Names, TermLine, unary, left, right, Line, binary_left, binary_right, compared, one_operand, select_true, select_false, freeze, copy, name, term, witness_term, compared_terms, witness, Half, paired, op_pairs, statement_pairs, node_class, chosen_class, term_class, operand_pairs, choice_pairs, node_pairs, term_pairs, formula_pairs, PairOf}
+use Rattle.rule_typing.proofs.Common.{◌≡◌, ◌⊎◌, inl, inr, ℕ, List, [], ◌∷◌, ◌++◌, get_or, Option, None, Some, refl, sym, ap, subst, ◌∙◌, arith, slice_get, Contains, option_map, option_and_then, same_Some, Contains-append_left, Contains-append_right, Contains-append_cases, Rule, Statement, Op, Binary, Compare, Unary, Select, Convert, Freeze, Copy, Operand, Argument, Choice, Register, Name, Term, Node, Formula, operands_among, operands_in, choices_among, IsStatementOf, Names, TermLine, unary, left, right, Line, binary_left, binary_right, compared, one_operand, select_true, select_false, freeze, copy, name, term, witness_term, compared_terms, masked, witness, Half, paired, op_pairs, statement_pairs, node_class, chosen_class, term_class, operand_pairs, choice_pairs, node_pairs, term_pairs, formula_pairs, formula_naming, PairOf, NamingOf}
 use Rattle.rule_core.specs.declared.rule.Argument.TheVariants as arguments
+use Rattle.rule_core.specs.declared.rule.Name.TheVariants as names
 use Rattle.rule_core.specs.declared.rule.Node.TheVariants as nodes
 use Rattle.rule_core.specs.declared.rule.Formula.TheVariants as formulas
 use Rattle.rule_core.specs.Positions.{operand}
@@ -16,6 +17,7 @@ pub data OnLine (rule : Rule) (c d : ℕ) : Type 0 where
   by_term : PairOf (term_pairs rule.terms) rule.terms c d → OnLine rule c d
   by_witness : PairOf (term_pairs rule.witness_terms) rule.witness_terms c d → OnLine rule c d
   by_comparison : PairOf (formula_pairs rule.terms) rule.precondition c d → OnLine rule c d
+  by_mask : (n : Name) → NamingOf (formula_naming rule.terms) rule.precondition n c → Names rule n d → OnLine rule c d
   by_name : (n : Name) → Names rule n c → Names rule n d → OnLine rule c d
 
 -- elements of short lists of pairs
@@ -126,9 +128,31 @@ at_formula rule (formulas.Compare pred a b) c d among pairs =
 at_formula rule (formulas.IsPowerOfTwo a) c d among pairs = absurd (no_pair (c, d) pairs)
 at_formula rule (formulas.IsSignBit a) c d among pairs = absurd (no_pair (c, d) pairs)
 at_formula rule (formulas.HasOneUse j) c d among pairs = absurd (no_pair (c, d) pairs)
+at_formula rule (formulas.MaskedValueIsZero r a) c d among pairs = absurd (no_pair (c, d) pairs)
+at_formula rule (formulas.IsKnownNonZero r) c d among pairs = absurd (no_pair (c, d) pairs)
 at_formula rule (formulas.Not a) c d among pairs = absurd (no_pair (c, d) pairs)
 at_formula rule (formulas.And a b) c d among pairs = absurd (no_pair (c, d) pairs)
 at_formula rule (formulas.Or a b) c d among pairs = absurd (no_pair (c, d) pairs)
+
+from_masked : (r : Register) (o : Option ℕ) (n : Name) (c : ℕ) → option_map {U = Name × ℕ} (λ x. (names.Register r, x)) o ≡ Some (n, c) → (o ≡ Some c) × (n ≡ names.Register r)
+from_masked r None n c e = cc
+from_masked r (Some x) n c e =
+    let both : (names.Register r, x) ≡ (n, c) = same_Some (names.Register r, x) (n, c) e in
+    (ap (λ (p : Name × ℕ). Some p.1) both, ap (λ (p : Name × ℕ). p.0) (sym both))
+
+at_mask : (rule : Rule) (f : Formula) (n : Name) (c d : ℕ) → Contains rule.precondition f → formula_naming rule.terms f ≡ Some (n, c) → Names rule n d → Line rule c d
+at_mask rule (formulas.MaskedValueIsZero r a) n c d among e q =
+    let (class, is) = from_masked r (node_class rule.terms a) n c e in
+    let (t, at, same) = from_node_class rule.terms a c class in
+    subst (λ x. Line rule x d) same (masked among at (subst (λ m. Names rule m d) is q))
+at_mask rule (formulas.Compare pred a b) n c d among e q = cc
+at_mask rule (formulas.IsPowerOfTwo a) n c d among e q = cc
+at_mask rule (formulas.IsSignBit a) n c d among e q = cc
+at_mask rule (formulas.HasOneUse j) n c d among e q = cc
+at_mask rule (formulas.IsKnownNonZero r) n c d among e q = cc
+at_mask rule (formulas.Not a) n c d among e q = cc
+at_mask rule (formulas.And a b) n c d among e q = cc
+at_mask rule (formulas.Or a b) n c d among e q = cc
 
 pub line_of : (rule : Rule) (c d : ℕ) → OnLine rule c d → Line rule c d
 line_of rule c d (by_statement (s, stands, pairs)) = at_op rule s s.op (c, d) stands refl pairs
@@ -137,6 +161,7 @@ line_of rule c d (by_choice half (choice, among, pairs)) = at_choice rule half c
 line_of rule c d (by_term (t, among, pairs)) = term (at_node rule.terms t t.node c d among refl pairs)
 line_of rule c d (by_witness (t, among, pairs)) = witness_term (at_node rule.witness_terms t t.node c d among refl pairs)
 line_of rule c d (by_comparison (f, among, pairs)) = at_formula rule f c d among pairs
+line_of rule c d (by_mask n (f, among, e) q) = at_mask rule f n c d among e q
 line_of rule c d (by_name n p q) = name p q
 
 -- ---- from constraints to parts
@@ -178,6 +203,8 @@ line_cases rule c d (operand {o} {n} {t} among is at) = elim (operand_cases rule
 ]
 line_cases rule c d (compared_terms {pred} {a} {b} {x} {y} among at at') =
     by_comparison (formulas.Compare pred a b, among, to_paired (node_class rule.terms a) (node_class rule.terms b) x.class y.class (to_node_class rule.terms a x at) (to_node_class rule.terms b y at'))
+line_cases rule c d (masked {r} {a} {c = e} {t} among at q) =
+    by_mask (names.Register r) (formulas.MaskedValueIsZero r a, among, ap (λ o. option_map {U = Name × ℕ} (λ x. (names.Register r, x)) o) (to_node_class rule.terms a t at)) q
 line_cases rule c d (witness {k} {c = e} {n} {t} among chosen at) =
     let choice : Choice = record { place = k; class = e } in
     by_choice halves.Source (choice, among, to_paired (Some e) (chosen_class rule k) e t.class refl (ap (λ x. option_and_then (node_class rule.witness_terms) x) chosen ∙ to_node_class rule.witness_terms n t at))

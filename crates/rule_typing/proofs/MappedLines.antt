@@ -1,5 +1,5 @@
 -- The constraints of a rule whose classes are mapped by f are those of the rule, under f.
-use Rattle.rule_typing.proofs.Common.{◌≡◌, inl, inr, ℕ, ◌+◌, ◌-◌, ◌==◌, if◌then◌else◌, List, [], ◌∷◌, ◌++◌, length, map, Bool, true, false, Option, None, Some, refl, sym, ap, subst, ◌∙◌, arith, Contains, slice_get, option_map, option_and_then, length-map, map-append, slice_get-map, Contains-append_left, Contains-append_right, Rule, Statement, Op, Binary, Compare, Unary, Select, Convert, Freeze, Copy, Operand, Argument, Choice, Name, Term, Node, Formula, operands_of, operands_among, operands_in, choices_of, choices_among, terms_in, classes_of, IsTermOf, Names, reads, reads_constant, chooses, source_assigns, target_assigns, assigns_root, term_register, term_constant, term_choice, measures, TermLine, unary, left, right, Line, binary_left, binary_right, compared, one_operand, select_true, select_false, freeze, copy, name, term, witness_term, compared_terms, witness, source_statement, target_statement, class_stands, operand_class_stands, term_class_stands, measured_class_stands, constant_term, choice_opens, reads_undef, freezes, Half, mapped_op, mapped_statement, mapped_node, mapped_term, mapped, paired, op_pairs, statement_pairs, node_class, chosen_class, term_class, operand_pairs, choice_pairs, node_pairs, term_pairs, formula_pairs, PairOf, name_of, operand_naming, choice_naming, node_naming, term_naming, NamingOf, assigned_class, last_class, root_class}
+use Rattle.rule_typing.proofs.Common.{◌≡◌, inl, inr, ℕ, ◌+◌, ◌-◌, ◌==◌, if◌then◌else◌, List, [], ◌∷◌, ◌++◌, length, map, Bool, true, false, Option, None, Some, refl, sym, ap, subst, ◌∙◌, arith, Contains, slice_get, option_map, option_and_then, length-map, map-append, slice_get-map, Contains-append_left, Contains-append_right, Rule, Statement, Op, Binary, Compare, Unary, Select, Convert, Freeze, Copy, Operand, Argument, Choice, Register, Name, Term, Node, Formula, operands_of, operands_among, operands_in, choices_of, choices_among, terms_in, classes_of, IsTermOf, Names, reads, reads_constant, chooses, source_assigns, target_assigns, assigns_root, term_register, term_constant, term_choice, measures, TermLine, unary, left, right, Line, binary_left, binary_right, compared, one_operand, select_true, select_false, freeze, copy, name, term, witness_term, compared_terms, masked, witness, source_statement, target_statement, class_stands, operand_class_stands, term_class_stands, measured_class_stands, constant_term, choice_opens, reads_undef, freezes, Half, mapped_op, mapped_statement, mapped_node, mapped_term, mapped, paired, op_pairs, statement_pairs, node_class, chosen_class, term_class, operand_pairs, choice_pairs, node_pairs, term_pairs, formula_pairs, PairOf, name_of, operand_naming, choice_naming, node_naming, term_naming, formula_naming, NamingOf, assigned_class, last_class, root_class}
 use Rattle.rule_core.specs.declared.rule.Argument.TheVariants as arguments
 use Rattle.rule_core.specs.declared.rule.Register.TheVariants as registers
 use Rattle.rule_core.specs.declared.rule.Name.TheVariants as names
@@ -11,7 +11,7 @@ use Rattle.rule_typing.specs.declared.half.Half.TheVariants as halves
 use Rattle.rule_typing.proofs.Images.{Contains-map, from_map, from_option_map, from_flat_map}
 use Rattle.rule_typing.proofs.Relabelled.{mapped_operand, mapped_choice, statements_mapped, terms_mapped, operands-mapped, choices-mapped}
 use Rattle.rule_typing.proofs.NameLines.{statements_of, half_statement, IsNamed, read, assigned, root, named_cases, names_of_named}
-use Rattle.rule_typing.proofs.LineParts.{OnLine, by_statement, by_operand, by_choice, by_term, by_witness, by_comparison, by_name, line_of, line_cases}
+use Rattle.rule_typing.proofs.LineParts.{OnLine, by_statement, by_operand, by_choice, by_term, by_witness, by_comparison, by_mask, by_name, line_of, line_cases}
 
 -- ---- both classes of a constraint are classes of the rule
 
@@ -69,6 +69,7 @@ line_classes rule c d (term on) = term_ends rule rule.terms c d (λ t among. Con
 line_classes rule c d (witness_term on) = term_ends rule rule.witness_terms c d (λ t among. Contains-append_right rule.terms rule.witness_terms t among) (witness_node rule) on
 line_classes rule c d (operand {o} {n} {t} among is there) = (operand_class rule o among, term_class_stands rule t (constant_term rule n t there))
 line_classes rule c d (compared_terms {pred} {a} {b} {x} {y} among there there') = (term_class_stands rule x (constant_term rule a x there), term_class_stands rule y (constant_term rule b y there'))
+line_classes rule c d (masked {r} {a} {c = e} {t} among there q) = (term_class_stands rule t (constant_term rule a t there), named_class rule (names.Register r) e q)
 line_classes rule c d (witness {k} {c = e} {n} {t} among chosen there) = (choice_class rule halves.Source (record { place = k; class = e }) among, term_class_stands rule t (witness_node rule n t there))
 
 -- ---- pairs under f
@@ -138,6 +139,8 @@ module _ (f : ℕ → ℕ) where
   formula_pairs-mapped terms (formulas.IsPowerOfTwo a) = refl
   formula_pairs-mapped terms (formulas.IsSignBit a) = refl
   formula_pairs-mapped terms (formulas.HasOneUse j) = refl
+  formula_pairs-mapped terms (formulas.MaskedValueIsZero r a) = refl
+  formula_pairs-mapped terms (formulas.IsKnownNonZero r) = refl
   formula_pairs-mapped terms (formulas.Not a) = refl
   formula_pairs-mapped terms (formulas.And a b) = refl
   formula_pairs-mapped terms (formulas.Or a b) = refl
@@ -182,6 +185,21 @@ module _ (f : ℕ → ℕ) where
   node_naming-mapped c (nodes.Width r d) = refl
   node_naming-mapped c (nodes.Unary function a) = refl
   node_naming-mapped c (nodes.Binary op a b) = refl
+
+  masked_option : (r : Register) (o : Option ℕ) → option_map {U = Name × ℕ} (λ c. (names.Register r, c)) (option_map f o) ≡ option_map moved (option_map {U = Name × ℕ} (λ c. (names.Register r, c)) o)
+  masked_option r None = refl
+  masked_option r (Some c) = refl
+
+  formula_naming-mapped : (terms : List Term) (x : Formula) → formula_naming (map (mapped_term f) terms) x ≡ option_map moved (formula_naming terms x)
+  formula_naming-mapped terms (formulas.MaskedValueIsZero r a) = ap (λ o. option_map {U = Name × ℕ} (λ c. (names.Register r, c)) o) (node_class-mapped terms a) ∙ masked_option r (node_class terms a)
+  formula_naming-mapped terms (formulas.Compare pred a b) = refl
+  formula_naming-mapped terms (formulas.IsPowerOfTwo a) = refl
+  formula_naming-mapped terms (formulas.IsSignBit a) = refl
+  formula_naming-mapped terms (formulas.HasOneUse j) = refl
+  formula_naming-mapped terms (formulas.IsKnownNonZero r) = refl
+  formula_naming-mapped terms (formulas.Not a) = refl
+  formula_naming-mapped terms (formulas.And a b) = refl
+  formula_naming-mapped terms (formulas.Or a b) = refl
 
   naming_map : {X : Type 0} (g : X → X) (naming : X → Option (Name × ℕ)) → ((x : X) → naming (g x) ≡ option_map moved (naming x)) → (xs : List X) (n : Name) (c : ℕ) → NamingOf naming xs n c → NamingOf naming (map g xs) n (f c)
   naming_map g naming same xs n c (x, among, e) = (g x, Contains-map g xs x among, same x ∙ ap (λ o. option_map moved o) e)
@@ -263,6 +281,7 @@ module _ (f : ℕ → ℕ) where
         by_witness (pair_map (mapped_term f) (term_pairs rule.witness_terms) (term_pairs (map (mapped_term f) rule.witness_terms)) (λ t. node_pairs-mapped rule.witness_terms t.class t.node) rule.witness_terms c d h)
     parts_map c d (by_comparison (x, among, pair)) =
         by_comparison (x, among, subst (λ l. Contains l (f c, f d)) (sym (formula_pairs-mapped rule.terms x)) (Contains-map (both f) (formula_pairs rule.terms x) (c, d) pair))
+    parts_map c d (by_mask n (x, among, e) q) = by_mask n (x, among, formula_naming-mapped rule.terms x ∙ ap (λ o. option_map moved o) e) (names_map n d q)
     parts_map c d (by_name n p q) = by_name n (names_map n c p) (names_map n d q)
 
     pub line_map : (c d : ℕ) → Line rule c d → Line (mapped f rule) (f c) (f d)
@@ -311,6 +330,10 @@ module _ (f : ℕ → ℕ) where
     from_parts c d (by_comparison (x, among, pair)) =
         let (p, q, inside, is, is') = from_image (formula_pairs rule.terms x) c d (subst (λ l. Contains l (c, d)) (formula_pairs-mapped rule.terms x) pair) in
         (p, q, by_comparison (x, among, inside), is, is')
+    from_parts c d (by_mask n (x, among, e) k) =
+        let ((m, p), there, equal) = from_option_map moved (formula_naming rule.terms x) (n, c) (sym (formula_naming-mapped rule.terms x) ∙ e) in
+        let (q, named, is) = from_names n d k in
+        (p, q, by_mask n (x, among, there ∙ ap (λ z. Some (z, p)) (ap (λ (y : Name × ℕ). y.0) equal)) named, sym (ap (λ (y : Name × ℕ). y.1) equal), is)
     from_parts c d (by_name n h k) =
         let (p, named, is) = from_names n c h in
         let (q, named', is') = from_names n d k in

@@ -1,9 +1,9 @@
 -- The loops over the parts of a rule find only constraints of it, and miss none.
-use Rattle.rule_typing.proofs.Common.{◌≡◌, ◌≢◌, inl, inr, ℕ, Option, None, Some, sym, ◌∙◌, IfSome, IfNone, same_Some, Contains-append_left, Contains-append_right, Contains-append_cases, Rule, Statement, Name, operands_of, choices_of, Names, Line, name, Contains-flat_map, Half, Splits, formula_pairs, PairOf, StatementsLine, TermsLine, RootLine, IsRead}
+use Rattle.rule_typing.proofs.Common.{◌≡◌, ◌≢◌, inl, inr, ℕ, Option, None, Some, sym, ◌∙◌, IfSome, IfNone, same_Some, Contains-append_left, Contains-append_right, Contains-append_cases, Rule, Statement, Name, operands_of, choices_of, Names, Line, name, Contains-flat_map, Half, Splits, StatementsLine, TermsLine, FormulasLine, RootLine, IsRead}
 use Rattle.rule_typing.specs.declared.half.Half.TheVariants as halves
 use Rattle.rule_typing.proofs.Images.{from_flat_map}
 use Rattle.rule_typing.proofs.NameLines.{statements_of, half_statement, operand_names, choice_names, term_names, assigned_names, root_names, IsNamed, read, assigned, root, named_cases}
-use Rattle.rule_typing.proofs.LineParts.{OnLine, by_statement, by_operand, by_choice, by_term, by_witness, by_comparison, by_name, line_of, line_cases}
+use Rattle.rule_typing.proofs.LineParts.{OnLine, by_statement, by_operand, by_choice, by_term, by_witness, by_comparison, by_mask, by_name, line_of, line_cases}
 use Rattle.rule_typing.proofs.Walks.{AreOne}
 
 module _ (rule : Rule) where
@@ -26,8 +26,9 @@ module _ (rule : Rule) where
   witness_line c d (t, among, inl pairs) = line_of rule c d (by_witness (t, among, pairs))
   witness_line c d (t, among, inr (n, e, q)) = name (term_names rule t n c (Contains-append_right rule.terms rule.witness_terms t among) e) q
 
-  pub comparison_line : (c d : ℕ) → PairOf (formula_pairs rule.terms) rule.precondition c d → Line rule c d
-  comparison_line c d pairs = line_of rule c d (by_comparison pairs)
+  pub formulas_line : (c d : ℕ) → FormulasLine rule rule.terms rule.precondition c d → Line rule c d
+  formulas_line c d (f, among, inl pairs) = line_of rule c d (by_comparison (f, among, pairs))
+  formulas_line c d (f, among, inr (n, e, q)) = line_of rule c d (by_mask n (f, among, e) q)
 
   pub root_line : (c d : ℕ) → RootLine rule c d → Line rule c d
   root_line c d (n, h, h') = name (assigned_names rule n c h) (root_names rule n d h')
@@ -41,7 +42,7 @@ module _ (rule : Rule) where
   last_found P (Some pair) to (on, apart) = (to pair.0 pair.1 on, apart)
 
   module _ (halves_one : (half : Half) → AreOne (StatementsLine rule half (statements_of rule half))) (terms_one : AreOne (TermsLine rule rule.terms)) (witness_one : AreOne (TermsLine rule rule.witness_terms))
-      (comparisons_one : AreOne (PairOf (formula_pairs rule.terms) rule.precondition)) (roots_one : AreOne (RootLine rule)) where
+      (formulas_one : AreOne (FormulasLine rule rule.terms rule.precondition)) (roots_one : AreOne (RootLine rule)) where
     -- where no loop finds anything, all positions with one name are of one class
     read_one : (n : Name) (c d : ℕ) → IsRead rule n c → Names rule n d → c ≡ d
     read_one n c d (inl (o, among, e)) q =
@@ -75,16 +76,17 @@ module _ (rule : Rule) where
         let (s, stands, here) = from_flat_map choices_of (statements_of rule half) choice among in halves_one half c d (s, stands, inr (inr (choice, here, inl pairs)))
     parts_one c d (by_term (t, among, pairs)) = terms_one c d (t, among, inl pairs)
     parts_one c d (by_witness (t, among, pairs)) = witness_one c d (t, among, inl pairs)
-    parts_one c d (by_comparison pairs) = comparisons_one c d pairs
+    parts_one c d (by_comparison (f, among, pairs)) = formulas_one c d (f, among, inl pairs)
+    parts_one c d (by_mask n (f, among, e) q) = formulas_one c d (f, among, inr (n, e, q))
     parts_one c d (by_name n p q) = named_one n c d p q (named_cases rule n c p) (named_cases rule n d q)
 
     pub all_one : AreOne (Line rule)
     all_one c d on = parts_one c d (line_cases rule c d on)
 
   pub none_left : (answer : Option (ℕ × ℕ)) → Splits (StatementsLine rule halves.Source rule.source) None → Splits (StatementsLine rule halves.Target rule.target) None → Splits (TermsLine rule rule.terms) None → Splits (TermsLine rule rule.witness_terms) None
-      → Splits (PairOf (formula_pairs rule.terms) rule.precondition) None → Splits (RootLine rule) answer → IfNone answer (AreOne (Line rule))
-  none_left (Some pair) source target terms witness comparisons roots = tt
-  none_left None source target terms witness comparisons roots = all_one by_half terms witness comparisons roots
+      → Splits (FormulasLine rule rule.terms rule.precondition) None → Splits (RootLine rule) answer → IfNone answer (AreOne (Line rule))
+  none_left (Some pair) source target terms witness formulas roots = tt
+  none_left None source target terms witness formulas roots = all_one by_half terms witness formulas roots
     where
       by_half : (half : Half) → AreOne (StatementsLine rule half (statements_of rule half))
       by_half halves.Source = source

@@ -1,10 +1,10 @@
 -- Whether some constraint asks two different classes to have one width is decided.
-use Rattle.rule_typing.proofs.Common.{◌≡◌, ◌≢◌, ◌⊎◌, inl, inr, ℕ, ◌-◌, List, ◌++◌, length, Option, None, Some, refl, sym, ap, subst, ◌∙◌, arith, Contains, map_dec, same_Some, Rule, Register, Name, operands_among, choices_among, terms_in, Names, Line, name, statement_pairs, operand_pairs, choice_pairs, term_pairs, formula_pairs, PairOf, operand_naming, choice_naming, term_naming, NamingOf, assigned_class, root_class, RootLine, IsRead}
+use Rattle.rule_typing.proofs.Common.{◌≡◌, ◌≢◌, ◌⊎◌, inl, inr, ℕ, ◌-◌, List, ◌++◌, length, Option, None, Some, refl, sym, ap, subst, ◌∙◌, arith, Contains, map_dec, same_Some, Rule, Register, Name, operands_among, choices_among, terms_in, Names, Line, name, statement_pairs, operand_pairs, choice_pairs, term_pairs, formula_pairs, PairOf, operand_naming, choice_naming, term_naming, formula_naming, NamingOf, assigned_class, root_class, RootLine, IsRead}
 use Rattle.rule_core.specs.declared.rule.Register.TheVariants as registers
 use Rattle.rule_core.specs.declared.rule.Name.TheVariants as names
 use Rattle.rule_typing.specs.declared.half.Half.TheVariants as halves
 use Rattle.rule_typing.proofs.NameLines.{read_names, root_is_last, IsNamed, read, assigned, root, named_cases, names_of_named}
-use Rattle.rule_typing.proofs.LineParts.{OnLine, by_statement, by_operand, by_choice, by_term, by_witness, by_comparison, by_name, line_of, line_cases}
+use Rattle.rule_typing.proofs.LineParts.{OnLine, by_statement, by_operand, by_choice, by_term, by_witness, by_comparison, by_mask, by_name, line_of, line_cases}
 use Rattle.rule_typing.proofs.SplitLines.{root_line}
 use Rattle.rule_typing.proofs.Deciding.{dec_both, dec_either, dec_not, stable, dec_number, dec_one}
 
@@ -119,7 +119,8 @@ module _ (rule : Rule) where
       ⊎ (Split (PairOf (term_pairs rule.witness_terms) rule.witness_terms)
       ⊎ (Split (PairOf (formula_pairs rule.terms) rule.precondition)
       ⊎ (((n : Name) × (c : ℕ) × IsRead rule n c × Other n c)
-      ⊎ Split (RootLine rule)))))))))
+      ⊎ (Split (RootLine rule)
+      ⊎ ((n : Name) × (c : ℕ) × NamingOf (formula_naming rule.terms) rule.precondition n c × Other n c))))))))))
 
   dec_found : Dec Found
   dec_found =
@@ -131,7 +132,8 @@ module _ (rule : Rule) where
       (dec_either (dec_pairs (term_pairs rule.terms) rule.terms)
       (dec_either (dec_pairs (term_pairs rule.witness_terms) rule.witness_terms)
       (dec_either (dec_pairs (formula_pairs rule.terms) rule.precondition)
-      (dec_either (dec_read Other dec_other) dec_root))))))))
+      (dec_either (dec_read Other dec_other)
+      (dec_either dec_root (dec_naming (formula_naming rule.terms) Other dec_other rule.precondition))))))))))
 
   found_line : Found → Split (Line rule)
   unfolding Other
@@ -144,19 +146,21 @@ module _ (rule : Rule) where
   found_line (inr (inr (inr (inr (inr (inr (inl (c, d, h, apart)))))))) = (c, d, line_of rule c d (by_witness h), apart)
   found_line (inr (inr (inr (inr (inr (inr (inr (inl (c, d, h, apart))))))))) = (c, d, line_of rule c d (by_comparison h), apart)
   found_line (inr (inr (inr (inr (inr (inr (inr (inr (inl (n, c, h, (d, q, apart))))))))))) = (c, d, name (read_names rule n c h) q, apart)
-  found_line (inr (inr (inr (inr (inr (inr (inr (inr (inr (c, d, h, apart)))))))))) = (c, d, root_line rule c d h, apart)
+  found_line (inr (inr (inr (inr (inr (inr (inr (inr (inr (inl (c, d, h, apart))))))))))) = (c, d, root_line rule c d h, apart)
+  found_line (inr (inr (inr (inr (inr (inr (inr (inr (inr (inr (n, c, h, (d, q, apart)))))))))))) = (c, d, line_of rule c d (by_mask n h q), apart)
 
   apart_names : (n : Name) (c d : ℕ) → c ≢ d → Names rule n c → Names rule n d → IsNamed rule n c → IsNamed rule n d → Found
   unfolding Other
   apart_names n c d apart p q (read h) k = inr (inr (inr (inr (inr (inr (inr (inr (inl (n, c, h, (d, q, apart))))))))))
   apart_names n c d apart p q (assigned h) (read k) = inr (inr (inr (inr (inr (inr (inr (inr (inl (n, d, k, (c, p, λ e. apart (sym e)))))))))))
   apart_names n c d apart p q (assigned h) (assigned k) = absurd (apart (same_Some c d (sym h ∙ k)))
-  apart_names n c d apart p q (assigned h) (root k) = inr (inr (inr (inr (inr (inr (inr (inr (inr (c, d, (n, h, k), apart)))))))))
+  apart_names n c d apart p q (assigned h) (root k) = inr (inr (inr (inr (inr (inr (inr (inr (inr (inl (c, d, (n, h, k), apart))))))))))
   apart_names n c d apart p q (root h) (read k) = inr (inr (inr (inr (inr (inr (inr (inr (inl (n, d, k, (c, p, λ e. apart (sym e)))))))))))
-  apart_names n c d apart p q (root h) (assigned k) = inr (inr (inr (inr (inr (inr (inr (inr (inr (d, c, (n, k, h), λ e. apart (sym e))))))))))
+  apart_names n c d apart p q (root h) (assigned k) = inr (inr (inr (inr (inr (inr (inr (inr (inr (inl (d, c, (n, k, h), λ e. apart (sym e)))))))))))
   apart_names n c d apart p q (root h) (root k) = absurd (apart (same_Some c d (sym h ∙ k)))
 
   line_found : (c d : ℕ) → c ≢ d → OnLine rule c d → Found
+  unfolding Other
   line_found c d apart (by_statement h) = inl (c, d, h, apart)
   line_found c d apart (by_operand halves.Source h) = inr (inl (c, d, h, apart))
   line_found c d apart (by_operand halves.Target h) = inr (inr (inl (c, d, h, apart)))
@@ -165,6 +169,7 @@ module _ (rule : Rule) where
   line_found c d apart (by_term h) = inr (inr (inr (inr (inr (inl (c, d, h, apart))))))
   line_found c d apart (by_witness h) = inr (inr (inr (inr (inr (inr (inl (c, d, h, apart)))))))
   line_found c d apart (by_comparison h) = inr (inr (inr (inr (inr (inr (inr (inl (c, d, h, apart))))))))
+  line_found c d apart (by_mask n h q) = inr (inr (inr (inr (inr (inr (inr (inr (inr (inr (n, c, h, (d, q, apart)))))))))))
   line_found c d apart (by_name n p q) = apart_names n c d apart p q (named_cases rule n c p) (named_cases rule n d q)
 
 -- some constraint asks it of two different classes, or each of equal ones

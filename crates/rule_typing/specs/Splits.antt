@@ -89,6 +89,8 @@ formula_pairs terms (formulas.Compare pred a b) = paired (node_class terms a) (n
 formula_pairs terms (formulas.IsPowerOfTwo a) = []
 formula_pairs terms (formulas.IsSignBit a) = []
 formula_pairs terms (formulas.HasOneUse j) = []
+formula_pairs terms (formulas.MaskedValueIsZero r a) = []
+formula_pairs terms (formulas.IsKnownNonZero r) = []
 formula_pairs terms (formulas.Not a) = []
 formula_pairs terms (formulas.And a b) = []
 formula_pairs terms (formulas.Or a b) = []
@@ -133,6 +135,18 @@ node_naming c (nodes.Binary op a b) = None
 
 abbrev pub term_naming : Term → Option (Name × ℕ)
 term_naming t = node_naming t.class t.node
+
+-- the register that a node of a formula says to have no bit of a mask, and the class of the mask
+abbrev pub formula_naming : List Term → Formula → Option (Name × ℕ)
+formula_naming terms (formulas.MaskedValueIsZero r a) = option_map (λ c. (names.Register r, c)) (node_class terms a)
+formula_naming terms (formulas.Compare pred a b) = None
+formula_naming terms (formulas.IsPowerOfTwo a) = None
+formula_naming terms (formulas.IsSignBit a) = None
+formula_naming terms (formulas.HasOneUse j) = None
+formula_naming terms (formulas.IsKnownNonZero r) = None
+formula_naming terms (formulas.Not a) = None
+formula_naming terms (formulas.And a b) = None
+formula_naming terms (formulas.Or a b) = None
 
 -- one of the elements names n with a position of class c
 abbrev pub NamingOf : {X : Type 0} → (X → Option (Name × ℕ)) → List X → Name → ℕ → Type 0
@@ -196,6 +210,10 @@ StatementsLine rule half statements c d = (s : Statement) × Contains statements
 -- the constraints of the nodes of a list of terms
 abbrev pub TermsLine : Rule → List Term → ℕ → ℕ → Type 0
 TermsLine rule terms = LinesOf rule (term_pairs terms) term_naming terms
+
+-- and of the nodes of a formula of these terms
+abbrev pub FormulasLine : Rule → List Term → List Formula → ℕ → ℕ → Type 0
+FormulasLine rule terms = LinesOf rule (formula_pairs terms) (formula_naming terms)
 
 -- c and d are the classes of the two results that assign the root, in the source and in the target
 abbrev pub RootLine : Rule → ℕ → ℕ → Type 0

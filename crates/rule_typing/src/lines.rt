@@ -31,7 +31,11 @@ pub(crate) fn split_line(rule: &Rule) -> Option<(u32, u32)>
     if let Some(pair) = split_by_terms(rule, rule.witness_terms.as_slice()) {
         return Some(pair);
     }
-    if let Some(pair) = split_by_formulas(rule.terms.as_slice(), rule.precondition.as_slice()) {
+    if let Some(pair) = split_by_formulas(
+        rule,
+        rule.terms.as_slice(),
+        rule.precondition.as_slice(),
+    ) {
         return Some(pair);
     }
     split_by_root(rule)

@@ -58,9 +58,9 @@ pub use Rattle.rule_terms.proofs.Starts.{mark_at-is}
 unfoldable pub use Rattle.rule_terms.specs.Chains.{chain_of}
 pub use Rattle.rule_terms.specs.Chains.{next_is}
 pub use Rattle.rule_terms.specs.FormulaKeywords.{comparison_in, comparison_mark, formula_words, predicate_in, predicate_node, predicate_word}
-unfoldable pub use Rattle.rule_terms.specs.FormulaReaders.{compares_at, comparison_at, formula_at, member_at, one_use_at, opens_formula, outer_member_at, tests_at}
-pub use Rattle.rule_terms.specs.FormulaReaders.{alternatives_of, asks_one_use, comparison_or_fault, deeper, encloses_at, joins, members_of, more_alternatives, opens_behind, or_alternatives, sign_of, turns_at}
-pub use Rattle.rule_terms.specs.Formulas.{Alternatives, Level, Member, Members, Outermost, SpellsFormula, SpellsWholeFormula, Standing, both, compares, either, encloses, member, members, tests, turns}
+unfoldable pub use Rattle.rule_terms.specs.FormulaReaders.{compares_at, comparison_at, formula_at, masked_at, member_at, non_zero_at, one_use_at, opens_formula, outer_member_at, tests_at}
+pub use Rattle.rule_terms.specs.FormulaReaders.{alternatives_of, comparison_or_fault, deeper, encloses_at, is_outer, joins, members_of, more_alternatives, opens_behind, or_alternatives, sign_of, turns_at}
+pub use Rattle.rule_terms.specs.Formulas.{Alternatives, Level, Member, Members, Outermost, SpellsFormula, SpellsWholeFormula, Standing, both, compares, either, encloses, masked, member, members, non_zero, tests, turns}
 pub use Rattle.rule_terms.specs.Grammar.{SpellsLeaf, SpellsTerm, SpellsWholeTerm, called, joined, last_place, leaf, parenthesised, prefixed, tighter, width}
 unfoldable pub use Rattle.rule_terms.specs.Keywords.{choice_in, meaning_in, name_in}
 pub use Rattle.rule_terms.specs.Keywords.{IsCalled, IsChoice, IsPrefix, level_of, loosest, operator_in, operator_mark}
@@ -73,7 +73,7 @@ pub use Rattle.rule_terms.specs.declared.formula_word.Predicate.TheVariants.{IsP
 pub use Rattle.rule_terms.specs.declared.place.TermPlace.{TermPlace}
 pub use Rattle.rule_terms.specs.declared.place.TermPlace.TheVariants.{Witness}
 pub use Rattle.rule_terms.specs.declared.raw.RawFormula.{RawFormula}
-pub use Rattle.rule_terms.specs.declared.raw.RawFormula.TheVariants.{And, HasOneUse, Or}
+pub use Rattle.rule_terms.specs.declared.raw.RawFormula.TheVariants.{And, HasOneUse, IsKnownNonZero, MaskedValueIsZero, Or}
 pub use Rattle.rule_terms.specs.declared.raw.RawNode.{RawNode}
 pub use Rattle.rule_terms.specs.declared.start.Start.{Start}
 pub use Rattle.rule_terms.specs.declared.start.Start.TheVariants.{Leaf, Parenthesis, Prefix}
@@ -85,6 +85,7 @@ pub use Rattle.rule_tokens.proofs.Steps.{bound, ok_is, read_as}
 pub use Rattle.rule_tokens.proofs.Types.{type_in-is, type_in-of}
 pub use Rattle.rule_tokens.proofs.Versions.{version_in-is}
 pub use Rattle.rule_tokens.specs.Contexts.{at_start, behind_name, context_behind, is_opcode}
+pub use Rattle.rule_tokens.specs.Facts.{fact_in}
 pub use Rattle.rule_tokens.specs.Limits.{AreWithin, Limits, rule_limits}
 unfoldable pub use Rattle.rule_tokens.specs.Numbers.{type_in}
 pub use Rattle.rule_tokens.specs.Numbers.{IsWrittenType, literal_value}
@@ -93,10 +94,11 @@ pub use Rattle.rule_tokens.specs.PartReaders.{Read, fault, left_out, line_end, m
 pub use Rattle.rule_tokens.specs.Parts.{Comma, Is, Maybe, Nothing, Part, ◌⨾◌}
 pub use Rattle.rule_tokens.specs.RuleFaults.{RuleFault}
 pub use Rattle.rule_tokens.specs.Steps.{◌>>=◌}
-pub use Rattle.rule_tokens.specs.Tokens.{AreTokens, Arrow, AtName, Bad, Excess, Head, Line, Mark, Name, Number, Place, Register, Token, TokensFrom, Word, bad_name, bad_token, bytes_at, is_called, place_behind, token_at, token_of, token_on, word_of}
+pub use Rattle.rule_tokens.specs.Tokens.{AreTokens, Arrow, AtName, Bad, Excess, Fact, Head, Line, Mark, Name, Number, Place, Register, Token, TokensFrom, Word, bad_name, bad_token, bytes_at, is_called, place_behind, token_at, token_of, token_on, word_of}
 pub use Rattle.rule_tokens.specs.TypeTokens.{SpellsType}
 pub use Rattle.rule_tokens.specs.Versions.{version_in}
 pub use Rattle.rule_tokens.specs.declared.context.Context.{Context}
+pub use Rattle.rule_tokens.specs.declared.fact.BitFact.{BitFact}
 pub use Rattle.rule_tokens.specs.declared.fault.RuleFaultKind.{RuleFaultKind}
 pub use Rattle.rule_tokens.specs.declared.fault.RuleFaultKind.TheVariants.{BadByte, LeftOut, Syntax, TooMany}
 pub use Rattle.rule_tokens.specs.declared.version.Version.{Version}

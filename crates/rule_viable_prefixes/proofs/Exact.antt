@@ -288,7 +288,7 @@ module _ (one : OneTokenAtAPlace) (limits : Limits) (text : List ℕ) (tokens : 
       is_kind = by found.kind refl other at.new (at.told (λ is. other (at.excess is)))
         where
           by : (k : RuleFaultKind) → found.kind ≡ k → k ≢ TooMany → IsNew at.front k → IsMisfit (wide none) (openings_on_line at.front) (FitsBehindWithin (wide none) at.front) at.token at.behind k ⊎ IsOtherVersion at.front at.token k → IsKindOf at.front at.token k
-          by k same apart new (inl (read_on (left, is, (far, nests, fits), missed, how))) = absurd (not_deep none far)
+          by k same apart new (inl (read_on (applied, (far, nests, fits), missed, how))) = absurd (not_deep none far)
           by k same apart new (inr (line, left, there, is, how)) = subst (IsKindOf at.front at.token) (sym how) (version line is there)
           by BadByte same apart new (inl (itself is)) = is
           by (LeftOut left) same apart new (inl (itself (is, no_use, (noun, is_noun, (rules, more, spelled))))) = word is (noun, is_noun, (rules, more, (wide none, spelled))) no_use (new left refl)

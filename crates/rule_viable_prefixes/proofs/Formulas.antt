@@ -1,5 +1,6 @@
 -- What the parsers of formulas do on a line.
-use Rattle.rule_viable_prefixes.proofs.Common.{◌≡◌, ℕ, zero, suc, ◌+◌, ◌≤◌, Bool, true, false, List, [], ◌∷◌, ◌++◌, length, Option, Some, None, Result, Ok, Err, refl, sym, ap, subst, ◌∙◌, append_assoc, inl, inr, arith, codes, list_any, bytes_eq, append-nil, append_cancel_right, Pred, Eq, same_word, is_constant, Syntax, TooMany, RuleFault, ◌>>=◌, literal_value, Part, Is, ◌⨾◌, Read, fault, unexpected, Token, Line, Register, Word, Number, Mark, EndsLine, bound, Opening, Encloses, Tests, Compares, Predicate, RawFormula, HasOneUse, And, Or, RawNode, opens_formula, comparison_at, compares_at, tests_at, one_use_at, joins, members_of, more_alternatives, alternatives_of, turns_at, encloses_at, member_at, outer_member_at, asks_one_use, or_alternatives, formula_at, comparison_mark, comparison_in, predicate_in, predicate_word, predicate_node, Standing, Outermost, Level, Member, Members, Alternatives, SpellsFormula, SpellsWholeFormula, compares, tests, turns, encloses, member, both, members, either, last_place, SpellsWholeTerm, leaf, parenthesised, opening_in, start_at, mark_at, primary_at, term_at, loosest, comparison_at-is, opening_at-is, member_at-is, members_of-is, alternatives_of-is, outer_member_at-is, joins_shortens, stands_within, stands_outermost, term_plain, formula_says, term_compares, within_read, member-turns, member-encloses, member-tests, member-compares, turns-too_deep, encloses-too_deep, spells_some, term_at-is, mark_at-is, Fitting, IsNoun, IsFlagWord, Limits}
+use Rattle.rule_viable_prefixes.proofs.Common.{◌≡◌, ℕ, zero, suc, ◌+◌, ◌≤◌, Bool, true, false, List, [], ◌∷◌, ◌++◌, length, Option, Some, None, Result, Ok, Err, refl, sym, ap, subst, ◌∙◌, append_assoc, inl, inr, arith, codes, list_any, bytes_eq, append-nil, append_cancel_right, Pred, Eq, same_word, is_constant, Syntax, TooMany, RuleFault, ◌>>=◌, literal_value, Part, Is, ◌⨾◌, Read, fault, unexpected, Token, Line, Register, Word, Fact, Number, Mark, EndsLine, bound, Opening, Encloses, Tests, Compares, Predicate, RawFormula, HasOneUse, MaskedValueIsZero, IsKnownNonZero, And, Or, RawNode, opens_formula, comparison_at, compares_at, tests_at, one_use_at, masked_at, non_zero_at, joins, members_of, more_alternatives, alternatives_of, turns_at, encloses_at, member_at, outer_member_at, is_outer, or_alternatives, formula_at, comparison_mark, comparison_in, predicate_in, predicate_word, predicate_node, Standing, Outermost, Level, Member, Members, Alternatives, SpellsFormula, SpellsWholeFormula, compares, tests, masked, non_zero, turns, encloses, member, both, members, either, last_place, SpellsWholeTerm, leaf, parenthesised, opening_in, start_at, mark_at, primary_at, term_at, loosest, comparison_at-is, opening_at-is, member_at-is, members_of-is, alternatives_of-is, outer_member_at-is, joins_shortens, stands_within, stands_outermost, term_plain, formula_says, term_compares, within_read, member-turns, member-encloses, member-tests, member-compares, turns-too_deep, encloses-too_deep, spells_some, term_at-is, mark_at-is, Fitting, IsNoun, IsFlagWord, Limits}
+use Rattle.rule_tokens.specs.declared.fact.BitFact.TheVariants as facts
 use Rattle.rule_terms.specs.declared.place.TermPlace.TheVariants.{Constant}
 use Rattle.rule_terms.specs.declared.raw.RawFormula.TheVariants.{Compare, Not}
 use Rattle.rule_terms.specs.declared.raw.RawNode.TheVariants as raw_nodes
@@ -10,7 +11,7 @@ use Rattle.rule_viable_prefixes.proofs.Reasons as kinds
 use Rattle.rule_viable_prefixes.proofs.Reasons.{Nests, IsTooDeep}
 use Rattle.rule_viable_prefixes.proofs.Nouns.{constant_noun, not_in_formulas, predicate_other, one_use_other}
 use Rattle.rule_viable_prefixes.proofs.Outcomes.{lack_wider, Lack, NoNoun, Takes, Alike, same, ended, NoLine, Spelling, Sample, pair, bare, Reader, IsErr, IsErrOn, Outcome, Good, then, passed, led, led_in, opened, opens_one, alike_as, widen, Branch, takes, refuses, by_token, with_none, widened, on_line, then_done, own_last}
-use Rattle.rule_viable_prefixes.proofs.Tolds.{Told, IsTold, says_syntax, says_too_many, says_deep, says_wider, says_carried, says_unexpected}
+use Rattle.rule_viable_prefixes.proofs.Tolds.{Told, IsTold, says_syntax, says_too_many, says_deep, says_deep_fact, says_wider, says_carried, says_unexpected}
 use Rattle.rule_viable_prefixes.proofs.FlagRuns.{IsNew, new_behind}
 use Rattle.rule_viable_prefixes.proofs.Parentheses.{word_and_equals, seen_again, unseen_again, shorter, longer, cut, opens_at_end, closes, formula_seen, BeginsTerm, loosened, not_both, term_instead, Enclosed, parenthesis_begins}
 use Rattle.rule_viable_prefixes.proofs.Parts.{Spelled, then_seq, ends_alike, refused_token, then_end, chain_good}
@@ -98,16 +99,16 @@ module _ (spare_bytes deepest spare_statements : ℕ) where
   abbrev IsName : Part
   IsName own = (name : List ℕ) × (length name ≤ limits.name_bytes) × Is (Register name) own
 
-  register_branch : (line : ℕ) (token : Token) → Branch limits (pair limits) (register_at limits line) (Spelled limits IsName) line token
-  register_branch line (Register name) = by (named limits line name)
+  register_branch : (nesting line : ℕ) (token : Token) → Branch (levels nesting) (pair limits) (register_at limits line) (Spelled limits IsName) line token
+  register_branch nesting line (Register name) = by (named limits line name)
     where
-      by : Named limits line name → Branch limits (pair limits) (register_at limits line) (Spelled limits IsName) line (Register name)
+      by : Named limits line name → Branch (levels nesting) (pair limits) (register_at limits line) (Spelled limits IsName) line (Register name)
       by (is_short le n) = takes name tt (name, le, refl) (λ more. rw n refl)
-      by (is_long long n) = refuses (λ more. (fault line TooMany, rw n refl, refl, says_too_many limits (Register name) more (kinds.register name (codes "a", long, omega arith, tt, tt, (codes "a", [], (codes "a", omega arith, refl))))))
-  register_branch line token = refuses (λ more. (unexpected line (token ∷ more), refl, refl, says_unexpected limits line token more (λ word is. inr (inr (λ noun is_noun others. (unexpected line (Word noun ∷ others), refl))))))
+      by (is_long long n) = refuses (λ more. (fault line TooMany, rw n refl, refl, says_too_many (levels nesting) (Register name) more (kinds.register name (codes "a", long, omega arith, tt, tt, (codes "a", [], (codes "a", omega arith, refl))))))
+  register_branch nesting line token = refuses (λ more. (unexpected line (token ∷ more), refl, refl, says_unexpected (levels nesting) line token more (λ word is. inr (inr (λ noun is_noun others. (unexpected line (Word noun ∷ others), refl))))))
 
-  register_good : (line : ℕ) → Good limits (pair limits) (register_at limits line) (Spelled limits IsName) line
-  register_good line = by_token limits ([], Register [] ∷ [], ([], omega arith, refl)) (register_branch line) (fault line Syntax, refl, refl, refl)
+  register_good : (nesting line : ℕ) → Good (levels nesting) (pair limits) (register_at limits line) (Spelled limits IsName) line
+  register_good nesting line = by_token (levels nesting) ([], Register [] ∷ [], ([], omega arith, refl)) (register_branch nesting line) (fault line Syntax, refl, refl, refl)
 
   used_once : (nesting : ℕ) (own : List Token) → (Is (Mark (codes "(")) ⨾ IsName ⨾ Is (Mark (codes ")"))) own → IsFormula Outermost Member nesting (Word (codes "hasOneUse") ∷ own)
   used_once nesting own (mark, back, o, (inside, close, (name, le, is), c, whole), all) = λ start.
@@ -118,7 +119,49 @@ module _ (spare_bytes deepest spare_statements : ℕ) where
   unfolding one_use_at
   one_use_good line before =
       then_seq limits {s = (bare limits)} {t = (pair limits)} _ (mark_good limits (codes "(") line) (λ u.
-      then_seq limits {s = (pair limits)} {t = (pair limits)} _ (register_good line) (λ name. close_done (before ++ HasOneUse name ∷ []) deepest line))
+      then_seq limits {s = (pair limits)} {t = (pair limits)} _ (register_good deepest line) (λ name. close_done (before ++ HasOneUse name ∷ []) deepest line))
+
+  known_non_zero : (nesting : ℕ) (own : List Token) → (Is (Mark (codes "(")) ⨾ IsName ⨾ Is (Mark (codes ")"))) own → IsFormula Outermost Member nesting (Fact facts.IsKnownNonZero ∷ own)
+  known_non_zero nesting own (mark, back, o, (inside, close, (name, le, is), c, whole), all) = λ start.
+      let same : own ≡ Mark (codes "(") ∷ Register name ∷ Mark (codes ")") ∷ [] = all ∙ ap (λ (ts : List Token). ts ++ back) o ∙ ap (λ (ts : List Token). Mark (codes "(") ∷ ts) (whole ∙ ap (λ (ts : List Token). ts ++ close) is ∙ ap (λ (ts : List Token). Register name ∷ ts) c) in
+      (IsKnownNonZero name ∷ [], subst (λ (ts : List Token). SpellsFormula limits Outermost Member nesting start (IsKnownNonZero name ∷ []) (Fact facts.IsKnownNonZero ∷ ts)) (sym same) (non_zero le))
+
+  non_zero_good : (line : ℕ) (before : List RawFormula) → Good limits (pair limits) (non_zero_at limits line before) (Spelled limits (Is (Mark (codes "(")) ⨾ IsName ⨾ Is (Mark (codes ")")))) line
+  unfolding non_zero_at
+  non_zero_good line before =
+      then_seq limits {s = (bare limits)} {t = (pair limits)} _ (mark_good limits (codes "(") line) (λ u.
+      then_seq limits {s = (pair limits)} {t = (pair limits)} _ (register_good deepest line) (λ name. close_done (before ++ IsKnownNonZero name ∷ []) deepest line))
+
+  -- a register and a term, behind the `(` of `MaskedValueIsZero`
+  abbrev IsMasked : ℕ → Part
+  IsMasked nesting = IsName ⨾ Is (Mark (codes ",")) ⨾ IsTerm spare_bytes deepest spare_statements Constant nesting loosest ⨾ Is (Mark (codes ")"))
+
+  value_masked : (nesting : ℕ) (own : List Token) → (Is (Mark (codes "(")) ⨾ IsMasked nesting) own → IsFormula Outermost Member (suc nesting) (Fact facts.MaskedValueIsZero ∷ own)
+  value_masked nesting own (mark, back, o, (first, others, (name, le, n), (comma, after, m, (inside, close, is, c, last), behind), whole), all) = λ start.
+      let term = is 0 in
+      let same : own ≡ Mark (codes "(") ∷ Register name ∷ Mark (codes ",") ∷ inside ++ Mark (codes ")") ∷ [] =
+      all ∙ ap (λ (ts : List Token). ts ++ back) o
+      ∙ ap (λ (ts : List Token). Mark (codes "(") ∷ ts) (whole ∙ ap (λ (ts : List Token). ts ++ others) n
+      ∙ ap (λ (ts : List Token). Register name ∷ ts) (behind ∙ ap (λ (ts : List Token). ts ++ after) m
+      ∙ ap (λ (ts : List Token). Mark (codes ",") ∷ ts) (last ∙ ap (λ (ts : List Token). inside ++ ts) c))) in
+      (MaskedValueIsZero name term.0 ∷ [], subst (λ (ts : List Token). SpellsFormula limits Outermost Member (suc nesting) start (MaskedValueIsZero name term.0 ∷ []) (Fact facts.MaskedValueIsZero ∷ ts)) (sym same) (masked le term.1))
+
+  masked_good : (nesting line : ℕ) (before : List RawFormula) → Good (levels (suc nesting)) (pair limits) (masked_at limits (suc nesting) line before) (Spelled limits (Is (Mark (codes "(")) ⨾ IsMasked nesting)) line
+  unfolding masked_at
+  masked_good nesting line before =
+      widened (levels (suc nesting)) (λ x own c. (Mark (codes "(") ∷ [], c.0, refl, c.1, c.2))
+      (entered spare_bytes deepest spare_statements nesting line _ (Spelled limits (IsMasked nesting))
+      (then_seq (levels nesting) {s = (pair limits)} {t = (pair limits)} _ (register_good nesting line) (λ name.
+      then_seq (levels nesting) {s = (bare limits)} {t = (pair limits)} _ (mark_good (levels nesting) (codes ",") line) (λ u.
+      then_seq (levels nesting) {s = (pair limits)} {t = (pair limits)} _ (term_good spare_bytes deepest spare_statements Constant nesting line) (λ term. close_done (before ++ MaskedValueIsZero name term ∷ []) nesting line)))))
+
+  masked_shallow : (line : ℕ) (before : List RawFormula) (tokens : List Token) → IsShallow line tokens (masked_at limits zero line before tokens)
+  unfolding masked_at
+  masked_shallow line before tokens = by (mark_at (codes "(") line tokens) refl
+    where
+      by : (r : Result (List Token) RuleFault) → mark_at (codes "(") line tokens ≡ r → IsShallow line tokens (masked_at limits zero line before tokens)
+      by (Ok rest) e = (fault line TooMany, rw e refl, refl, inl refl)
+      by (Err f) e = (f, rw e refl, on_line (levels zero) (mark_good (levels zero) (codes "(") line) tokens f e, parenthesis_missed limits line tokens f e)
 
   -- ---- chains of members
 
@@ -529,6 +572,8 @@ module _ (spare_bytes deepest spare_statements : ℕ) where
   formula_some (compares {front = front} {back = back} pred l r) e = no_append front (Mark (comparison_mark pred)) back e
   formula_some (tests predicate is) e = absurd cc
   formula_some (one_use le) e = absurd cc
+  formula_some (masked le is) e = absurd cc
+  formula_some (non_zero le) e = absurd cc
   formula_some (turns is) e = absurd cc
   formula_some (encloses is) e = absurd cc
   formula_some (member is) e = formula_some is e
@@ -642,6 +687,17 @@ module _ (spare_bytes deepest spare_statements : ℕ) where
   outer_alike line before token rest h more (ended a (Line number ∷ b) p q) = refl
   outer_alike line before token rest h more (ended a b p q) = absurd q
 
+  -- behind `MaskedValueIsZero`, by a reader that goes on so behind it
+  masked_outcome : (nesting line : ℕ) (before : List RawFormula) (rest : List Token) (R : Reader limits (List RawFormula × List Token)) → ((more : List Token) → R (Fact facts.MaskedValueIsZero ∷ more) ≡ masked_at limits nesting line before more)
+      → Outcome (levels nesting) (pair limits) R (Spelled limits (IsFormula Outermost Member nesting)) line (Fact facts.MaskedValueIsZero ∷ rest) (R (Fact facts.MaskedValueIsZero ∷ rest))
+  masked_outcome zero line before rest R h =
+      refused_token (levels zero) (pair limits) R (Spelled limits (IsFormula Outermost Member zero)) line (Fact facts.MaskedValueIsZero) rest (member_sample Outermost zero line before) (λ p. p)
+      (λ more. let e = masked_shallow line before more in (e.0, h more ∙ e.1, e.2, says_deep_fact (levels zero) facts.MaskedValueIsZero (too_deep Outermost (Fact facts.MaskedValueIsZero) kinds.masked) more e.0.kind e.3))
+  masked_outcome (suc nesting) line before rest R h =
+      led (levels (suc nesting)) (pair limits) R (masked_at limits (suc nesting) line before) (Spelled limits (IsFormula Outermost Member (suc nesting))) line (Fact facts.MaskedValueIsZero) rest tt h
+      (widen (levels (suc nesting)) (pair limits) (masked_at limits (suc nesting) line before) (Spelled limits (Is (Mark (codes "(")) ⨾ IsMasked nesting)) (λ x own. IsFormula Outermost Member (suc nesting) (Fact facts.MaskedValueIsZero ∷ own)) line rest
+      (λ x own is. value_masked nesting own is) (masked_at limits (suc nesting) line before rest) ((masked_good nesting line before).outcome rest))
+
   outer_outcome : (line : ℕ) (before : List RawFormula) (tokens : List Token) → OuterIs line before tokens
   unfolding outer_member_at
   outer_outcome line before [] = outer_as_member line before [] (λ more alike. by more (ends_alike limits [] more alike tt))
@@ -657,6 +713,11 @@ module _ (spare_bytes deepest spare_statements : ℕ) where
           (widen limits (pair limits) (one_use_at limits line before) (Spelled limits (Is (Mark (codes "(")) ⨾ IsName ⨾ Is (Mark (codes ")")))) (λ x own. IsFormula Outermost Member limits.nested (Word word ∷ own)) line rest
           (λ x own is. subst (λ (w : List ℕ). IsFormula Outermost Member limits.nested (Word w ∷ own)) (sym (same_word word (codes "hasOneUse") h)) (used_once limits.nested own is)) (one_use_at limits line before rest) ((one_use_good line before).outcome rest))
       by false h = outer_as_member line before (Word word ∷ rest) (outer_alike line before (Word word) rest (λ more. rw h refl))
+  outer_outcome line before (Fact facts.MaskedValueIsZero ∷ rest) = masked_outcome deepest line before rest (outer_member_at limits line before) (λ more. refl)
+  outer_outcome line before (Fact facts.IsKnownNonZero ∷ rest) =
+      led limits (pair limits) (outer_member_at limits line before) (non_zero_at limits line before) (Spelled limits (IsFormula Outermost Member limits.nested)) line (Fact facts.IsKnownNonZero) rest tt (λ more. refl)
+      (widen limits (pair limits) (non_zero_at limits line before) (Spelled limits (Is (Mark (codes "(")) ⨾ IsName ⨾ Is (Mark (codes ")")))) (λ x own. IsFormula Outermost Member limits.nested (Fact facts.IsKnownNonZero ∷ own)) line rest
+      (λ x own is. known_non_zero limits.nested own is) (non_zero_at limits line before rest) ((non_zero_good line before).outcome rest))
   outer_outcome line before (token ∷ rest) = outer_as_member line before (token ∷ rest) (outer_alike line before token rest (λ more. refl))
 
   outer_good : (line : ℕ) (before : List RawFormula) → Good limits (pair limits) (outer_member_at limits line before) (Spelled limits (IsFormula Outermost Member limits.nested)) line
@@ -664,7 +725,7 @@ module _ (spare_bytes deepest spare_statements : ℕ) where
 
   -- the members of the outermost `&&`: a formula without `hasOneUse` may also stand inside another
   abbrev First : Spelling limits (List RawFormula)
-  First x own = IsFormula Outermost Members limits.nested own × (list_any asks_one_use x ≡ false → (nodes : List RawFormula) × SpellsFormula limits Within Members limits.nested 0 nodes own)
+  First x own = IsFormula Outermost Members limits.nested own × (list_any is_outer x ≡ false → (nodes : List RawFormula) × SpellsFormula limits Within Members limits.nested 0 nodes own)
 
   abbrev first_at : ℕ → Reader limits (List RawFormula × List Token)
   first_at line tokens = members_of (outer_member_at limits line) [] tokens
@@ -672,11 +733,11 @@ module _ (spare_bytes deepest spare_statements : ℕ) where
   any_first : (own : List Token) → IsFormula Outermost Members limits.nested own → First (HasOneUse [] ∷ []) own
   any_first own is = (is, λ none. absurd cc)
 
-  first_within : (line : ℕ) (tokens own : List Token) (x : List RawFormula) (rest : List Token) → first_at line tokens ≡ Ok (x, rest) → tokens ≡ own ++ rest → list_any asks_one_use x ≡ false → (nodes : List RawFormula) × SpellsFormula limits Within Members limits.nested 0 nodes own
+  first_within : (line : ℕ) (tokens own : List Token) (x : List RawFormula) (rest : List Token) → first_at line tokens ≡ Ok (x, rest) → tokens ≡ own ++ rest → list_any is_outer x ≡ false → (nodes : List RawFormula) × SpellsFormula limits Within Members limits.nested 0 nodes own
   first_within line tokens own x rest e whole none =
       let a = members_of-is limits Outermost limits.nested (outer_member_at limits line) (outer_member_at-is limits line) [] tokens (x, rest) e in
       let same_own : a.own ≡ own = append_cancel_right a.own own rest (sym a.whole ∙ whole) in
-      (a.nodes, subst (λ (ts : List Token). SpellsFormula limits Within Members limits.nested 0 a.nodes ts) same_own (stands_within limits a.is_own (subst (λ (ns : List RawFormula). list_any asks_one_use ns ≡ false) a.made none)))
+      (a.nodes, subst (λ (ts : List Token). SpellsFormula limits Within Members limits.nested 0 a.nodes ts) same_own (stands_within limits a.is_own (subst (λ (ns : List RawFormula). list_any is_outer ns ≡ false) a.made none)))
 
   first_good : (line : ℕ) → Good limits (pair limits) (first_at line) First line
   first_good line = record { sample = (HasOneUse [] ∷ [], good.sample.1, any_first good.sample.1 good.sample.2); outcome = λ tokens. by tokens (first_at line tokens) refl (good.outcome tokens) }
@@ -710,7 +771,7 @@ module _ (spare_bytes deepest spare_statements : ℕ) where
   abbrev pub IsWholeFormula : Part
   IsWholeFormula own = (nodes : List RawFormula) × SpellsWholeFormula limits nodes own
 
-  whole_formula : (asks : Bool) (x : List RawFormula) (front back : List Token) → list_any asks_one_use x ≡ asks → First x front → After asks back → IsWholeFormula (front ++ back)
+  whole_formula : (asks : Bool) (x : List RawFormula) (front back : List Token) → list_any is_outer x ≡ asks → First x front → After asks back → IsWholeFormula (front ++ back)
   whole_formula true x front back e one none = with_none limits IsWholeFormula front back none (let f = one.0 0 in (f.0, members f.1))
   whole_formula false x front back e one onward =
       let f = one.1 e in
@@ -720,5 +781,5 @@ module _ (spare_bytes deepest spare_statements : ℕ) where
   pub formula_good : (line : ℕ) → Good limits (pair limits) (formula_at limits line) (Spelled limits IsWholeFormula) line
   unfolding formula_at
   formula_good line =
-      then limits {s = (pair limits)} {t = (pair limits)} _ {L = First} {M = λ x. Spelled limits (After (list_any asks_one_use x))} (λ x y front back one after. whole_formula (list_any asks_one_use x) x front back refl one after) (first_good line)
-      (λ first. then_end limits _ (λ whole. whole) (λ whole rest. refl) (after_good line (list_any asks_one_use first) first))
+      then limits {s = (pair limits)} {t = (pair limits)} _ {L = First} {M = λ x. Spelled limits (After (list_any is_outer x))} (λ x y front back one after. whole_formula (list_any is_outer x) x front back refl one after) (first_good line)
+      (λ first. then_end limits _ (λ whole. whole) (λ whole rest. refl) (after_good line (list_any is_outer first) first))

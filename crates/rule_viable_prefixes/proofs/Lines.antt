@@ -1,5 +1,5 @@
 -- What the parsers of the parts of a rule do, line by line.
-use Rattle.rule_viable_prefixes.proofs.Common.{◌≡◌, ℕ, zero, suc, ◌≤◌, Bool, true, false, List, [], ◌∷◌, ◌++◌, length, Option, Some, None, Result, Ok, Err, refl, sym, ap, subst, ◌∙◌, inl, inr, arith, drop, codes, bytes_eq, append-nil, same_word, no_flags, flags_of, flags_of_cast, flags_of_icmp, Syntax, TooMany, RuleFault, ◌>>=◌, Part, ◌⨾◌, Maybe, fault, unexpected, name_within, type_at, line_end, Token, Line, Head, Name, Register, Word, Arrow, EndsLine, name_within-of, bound, read_as, Witness, RawNode, loosest, mark_at, members_of, outer_member_at, asks_one_use, or_alternatives, formula_at, Half, Source, Target, RawStatement, RawPrecondition, RawWitness, Operation, SpellsStatement, SpellsStatements, SpellsHalf, SpellsPrecondition, SpellsExpression, SpellsMoreExpressions, SpellsExpressions, SpellsWitness, typed_at, to_at, flags_at, pair_at, binary_at, pred_at, compare_at, truth_at, unary_at, select_at, convert_at, freeze_at, copy_at, operation_at, next_operation, operation_or_other, op_at, statement_at, statements_at, name_text, name_at, behind_precondition, precondition_at, expression_at, more_expressions, expressions_at, behind_witness, witness_at, source_at, arrow_at, target_at, expression_shortens, name_at-is, Version, Limits}
+use Rattle.rule_viable_prefixes.proofs.Common.{◌≡◌, ℕ, zero, suc, ◌≤◌, Bool, true, false, List, [], ◌∷◌, ◌++◌, length, Option, Some, None, Result, Ok, Err, refl, sym, ap, subst, ◌∙◌, inl, inr, arith, drop, codes, bytes_eq, append-nil, same_word, no_flags, flags_of, flags_of_cast, flags_of_icmp, Syntax, TooMany, RuleFault, ◌>>=◌, Part, ◌⨾◌, Maybe, fault, unexpected, name_within, type_at, line_end, Token, Line, Head, Name, Register, Word, Arrow, EndsLine, name_within-of, bound, read_as, Witness, RawNode, loosest, mark_at, members_of, outer_member_at, is_outer, or_alternatives, formula_at, Half, Source, Target, RawStatement, RawPrecondition, RawWitness, Operation, SpellsStatement, SpellsStatements, SpellsHalf, SpellsPrecondition, SpellsExpression, SpellsMoreExpressions, SpellsExpressions, SpellsWitness, typed_at, to_at, flags_at, pair_at, binary_at, pred_at, compare_at, truth_at, unary_at, select_at, convert_at, freeze_at, copy_at, operation_at, next_operation, operation_or_other, op_at, statement_at, statements_at, name_text, name_at, behind_precondition, precondition_at, expression_at, more_expressions, expressions_at, behind_witness, witness_at, source_at, arrow_at, target_at, expression_shortens, name_at-is, Version, Limits}
 use Rattle.rule_parse.specs.declared.word.Operation.TheVariants as operations
 use Rattle.rule_parse.specs.RuleReaders.{operand_at}
 use Rattle.rule_viable_prefixes.proofs.Formulas.{IsWholeFormula, formula_good}
@@ -247,7 +247,7 @@ module _ (spare_bytes deepest spare_statements : ℕ) (version : Version) where
 
   formula_ends : (line : ℕ) (tokens : List Token) → Ends (formula_at limits line tokens)
   unfolding formula_at
-  formula_ends line tokens = ends_behind (members_of (outer_member_at limits line) [] tokens) _ (λ first. ends_behind (or_alternatives limits line (Rattle.std.specs.List.list_any asks_one_use first.0) first.0 first.1) _ (λ whole. ends_line line whole.1 whole.0))
+  formula_ends line tokens = ends_behind (members_of (outer_member_at limits line) [] tokens) _ (λ first. ends_behind (or_alternatives limits line (Rattle.std.specs.List.list_any is_outer first.0) first.0 first.1) _ (λ whole. ends_line line whole.1 whole.0))
 
   behind_precondition_good : (line : ℕ) → Good limits (pair limits) (behind_precondition limits line) (Spelled limits (IsWholeFormula spare_bytes deepest spare_statements)) line
   behind_precondition_good line = then_done limits {s = (pair limits)} {L = Spelled limits (IsWholeFormula spare_bytes deepest spare_statements)} (λ f. Some (record { line = line; formula = f })) (λ formula. Ok (Some (record { line = line; formula = formula.0 }), formula.1)) (λ x rest. refl) (λ x own is. is) (formula_good spare_bytes deepest spare_statements line)

@@ -1,7 +1,8 @@
 -- What the parsers of formulas read of tokens with the sentinel.
-use Rattle.rule_viable_prefixes.proofs.Common.{◌≡◌, ℕ, zero, suc, ◌+◌, ◌<◌, ◌≤◌, Bool, true, false, cond, List, [], ◌∷◌, ◌++◌, length, Option, Some, None, Result, Ok, Err, refl, sym, ap, subst, ◌∙◌, arith, codes, drop, list_any, bytes_eq, Pred, same_word, Refused, is_constant, is_choice, ends_primary, RuleFaultKind, TooMany, Limits, fault, unexpected, line_end, RuleFault, ◌>>=◌, Token, Line, Name, Register, Word, Mark, Excess, EndsLine, Opening, Turns, Encloses, Tests, Compares, Predicate, IsPowerOfTwo, IsSignBit, RawFormula, RawNode, HasOneUse, And, Or, next_is, comparison_mark, comparison_in, predicate_word, predicate_node, sign_of, opens_behind, opens_formula, comparison_or_fault, comparison_at, compares_at, deeper, tests_at, one_use_at, joins, members_of, alternatives_of, turns_at, encloses_at, member_at, outer_member_at, asks_one_use, or_alternatives, formula_at, last_place, mark_at, term_at, StartsSo, comparison_at-is, opening_at-is, member_at-is, outer_member_at-is, reads_shorten, next_is-is, Role, Negates, Joins, mark_role, ends_operand, without_signs, without_negations, closed, open_with}
+use Rattle.rule_viable_prefixes.proofs.Common.{◌≡◌, ℕ, zero, suc, ◌+◌, ◌<◌, ◌≤◌, Bool, true, false, cond, List, [], ◌∷◌, ◌++◌, length, Option, Some, None, Result, Ok, Err, refl, sym, ap, subst, ◌∙◌, arith, codes, drop, list_any, bytes_eq, Pred, same_word, Refused, is_constant, is_choice, ends_primary, RuleFaultKind, TooMany, Limits, fault, unexpected, line_end, RuleFault, ◌>>=◌, BitFact, Token, Line, Name, Register, Word, Fact, Mark, Excess, EndsLine, Opening, Turns, Encloses, Tests, Compares, Predicate, IsPowerOfTwo, IsSignBit, RawFormula, RawNode, HasOneUse, MaskedValueIsZero, IsKnownNonZero, And, Or, next_is, comparison_mark, comparison_in, predicate_word, predicate_node, sign_of, opens_behind, opens_formula, comparison_or_fault, comparison_at, compares_at, deeper, tests_at, one_use_at, masked_at, non_zero_at, joins, members_of, alternatives_of, turns_at, encloses_at, member_at, outer_member_at, is_outer, or_alternatives, formula_at, last_place, mark_at, term_at, StartsSo, comparison_at-is, opening_at-is, member_at-is, outer_member_at-is, reads_shorten, next_is-is, Role, Negates, Joins, mark_role, ends_operand, without_signs, without_negations, closed, open_with}
 use Rattle.ops.specs.declared.comparison.Pred.TheVariants as preds
 use Rattle.scan.specs.declared.rule_token.RuleKind.TheVariants as kinds
+use Rattle.rule_tokens.specs.declared.fact.BitFact.TheVariants as facts
 use Rattle.rule_terms.specs.declared.formula_word.Sign.{Sign as Seen}
 use Rattle.rule_terms.specs.declared.formula_word.Sign.TheVariants as signs
 use Rattle.rule_terms.specs.declared.place.TermPlace.TheVariants.{Constant}
@@ -479,15 +480,53 @@ module _ (c : Marking) (statements line : ℕ) (few : statements ≤ c.limits.st
       by u v (token (Register name) x y text next) = register name x y (register_read c statements line few (Opens ∷ []) false name x y some next)
       by u v (token t x y text next) = unexpected_both t x y text
 
-  one_use_same : (before : List RawFormula) (a b : List Token) → 1 ≤ c.limits.nested → Marked c (here [] false) a b → FormulaSame [] (one_use_at c.limits line before a) (one_use_at c.wider line before b)
-  unfolding one_use_at
-  one_use_same before a b some marked = same_bind (open_same c statements line few [] c.limits.nested false a b (omega arith) marked) (λ u v o. by u v o) (λ u never. absurd never)
+  -- a node of a register in parentheses
+  abbrev named_at : Limits → (List ℕ → RawFormula) → Reader (List RawFormula)
+  named_at limits node before tokens = mark_at (codes "(") line tokens >>= λ u. register_at limits line u >>= λ r. mark_at (codes ")") line r.1 >>= λ rest. Ok (before ++ node r.0 ∷ [], rest)
+
+  named_same : (node : List ℕ → RawFormula) (before : List RawFormula) (a b : List Token) → 1 ≤ c.limits.nested → Marked c (here [] false) a b → FormulaSame [] (named_at c.limits node before a) (named_at c.wider node before b)
+  named_same node before a b some marked = same_bind (open_same c statements line few [] c.limits.nested false a b (omega arith) marked) (λ u v o. by u v o) (λ u never. absurd never)
     where
       by : (u v : List Token) → Opened c statements line few [] c.limits.nested u v
-          → FormulaSame [] (register_at c.limits line u >>= λ r. mark_at (codes ")") line r.1 >>= λ rest. Ok (before ++ HasOneUse r.0 ∷ [], rest)) (register_at c.wider line v >>= λ r. mark_at (codes ")") line r.1 >>= λ rest. Ok (before ++ HasOneUse r.0 ∷ [], rest))
+          → FormulaSame [] (register_at c.limits line u >>= λ r. mark_at (codes ")") line r.1 >>= λ rest. Ok (before ++ node r.0 ∷ [], rest)) (register_at c.wider line v >>= λ r. mark_at (codes ")") line r.1 >>= λ rest. Ok (before ++ node r.0 ∷ [], rest))
       by u v (too_deep x none_) = absurd (omega (arith, none_, some))
       by u v (inside x y more_ behind) =
-          same_bind (name_same x y some behind) (λ s t is. closes_same [] (λ name. before ++ HasOneUse name ∷ []) s t (omega (arith, some)) refl is) (λ t s. close_stops (before ++ HasOneUse t.0 ∷ []) t s)
+          same_bind (name_same x y some behind) (λ s t is. closes_same [] (λ name. before ++ node name ∷ []) s t (omega (arith, some)) refl is) (λ t s. close_stops (before ++ node t.0 ∷ []) t s)
+
+  one_use_same : (before : List RawFormula) (a b : List Token) → 1 ≤ c.limits.nested → Marked c (here [] false) a b → FormulaSame [] (one_use_at c.limits line before a) (one_use_at c.wider line before b)
+  unfolding one_use_at
+  one_use_same before a b some marked = named_same (λ name. HasOneUse name) before a b some marked
+
+  non_zero_same : (before : List RawFormula) (a b : List Token) → 1 ≤ c.limits.nested → Marked c (here [] false) a b → FormulaSame [] (non_zero_at c.limits line before a) (non_zero_at c.wider line before b)
+  unfolding non_zero_at
+  non_zero_same before a b some marked = named_same (λ name. IsKnownNonZero name) before a b some marked
+
+  comma_same : (a b : List Token) → 1 ≤ c.limits.nested → Marked c (here (Opens ∷ []) true) a b → Same c line (Marked c (here (Opens ∷ []) false)) (NoStand c statements line few) (mark_at (codes ",") line a) (mark_at (codes ",") line b)
+  comma_same a b some marked = mark_same c statements line few (codes ",") (here (Opens ∷ []) true) a b marked (λ x y next. on c statements line few (Mark (codes ",")) x y next tt refl (omega (arith, some)) few)
+
+  masked_same : (n m : ℕ) → n < m → n ≡ c.limits.nested → (before : List RawFormula) (a b : List Token) → 1 ≤ c.limits.nested → Marked c (here [] false) a b → FormulaSame [] (masked_at c.limits n line before a) (masked_at c.wider m line before b)
+  unfolding masked_at
+  masked_same n m less deep before a b some marked = same_bind (open_same c statements line few [] n false a b (omega (arith, deep)) marked) (λ u v o. by n m less deep u v o) (λ u never. absurd never)
+    where
+      by : (n m : ℕ) → n < m → n ≡ c.limits.nested → (u v : List Token) → Opened c statements line few [] n u v
+          → FormulaSame []
+          (deeper line n >>= λ inner. register_at c.limits line u >>= λ r. mark_at (codes ",") line r.1 >>= λ behind. term_at c.limits Constant inner line behind >>= λ term. mark_at (codes ")") line term.1 >>= λ rest. Ok (before ++ MaskedValueIsZero r.0 term.0 ∷ [], rest))
+          (deeper line m >>= λ inner. register_at c.wider line v >>= λ r. mark_at (codes ",") line r.1 >>= λ behind. term_at c.wider Constant inner line behind >>= λ term. mark_at (codes ")") line term.1 >>= λ rest. Ok (before ++ MaskedValueIsZero r.0 term.0 ∷ [], rest))
+      by n zero less d u v o = absurd (omega (arith, less))
+      by zero (suc m) less d u v o = absurd (omega (arith, d, some))
+      by (suc n) (suc m) less d u v (too_deep x none_) = absurd (omega (arith, none_))
+      by (suc n) (suc m) less d u v (inside x y more_ behind) =
+          same_bind (name_same x y some behind)
+          (λ r q named. same_bind (comma_same r.1 q.1 some named.1)
+          (λ s t next. same_bind (term_same c statements line few Constant n m (omega (arith, less)) (Opens ∷ []) refl (omega (arith, d)) s t next)
+          (λ e f is. subst (λ (name : List ℕ). FormulaSame [] (mark_at (codes ")") line e.1 >>= λ rest. Ok (before ++ MaskedValueIsZero r.0 e.0 ∷ [], rest)) (mark_at (codes ")") line f.1 >>= λ rest. Ok (before ++ MaskedValueIsZero name f.0 ∷ [], rest))) named.0
+          (closes_same [] (λ term. before ++ MaskedValueIsZero r.0 term ∷ []) e f (omega (arith, some)) refl is))
+          (λ f stops. close_stops (before ++ MaskedValueIsZero q.0 f.0 ∷ []) f stops))
+          (λ t never. absurd never))
+          (λ q stops. rw stops.1 (meets_bind (mark_met c statements line few (codes ",") stops.0) (λ t never. absurd never)))
+
+  fact_next : (fact : BitFact) (a b : List Token) → Next c (here [] false) (Fact fact) a b → Marked c (here [] false) a b
+  fact_next fact a b next = on c statements line few (Fact fact) a b next tt refl (omega arith) few
 
   outer_same : 1 ≤ c.limits.nested → (before : List RawFormula) (a b : List Token) → Marked c (here [] false) a b → FormulaSame [] (outer_member_at c.limits line before a) (outer_member_at c.wider line before b)
   unfolding outer_member_at
@@ -505,6 +544,8 @@ module _ (c : Marking) (statements line : ℕ) (few : statements ≤ c.limits.st
       by u v whole ends = member [] [] whole
       by u v whole stops = rw (mark_outer c.mark c.kind c.is_mark c.wider line before []) (member (Excess ∷ []) (c.mark ∷ []) whole)
       by u v whole (token (Word word) x y text next) = tried word x y whole next (bytes_eq word (codes "hasOneUse")) refl
+      by u v whole (token (Fact facts.MaskedValueIsZero) x y text next) = masked_same c.limits.nested c.wider.nested c.nested refl before x y some (fact_next facts.MaskedValueIsZero x y next)
+      by u v whole (token (Fact facts.IsKnownNonZero) x y text next) = non_zero_same before x y some (fact_next facts.IsKnownNonZero x y next)
       by u v whole (token t x y text next) = member (t ∷ x) (t ∷ y) whole
 
   outer_refuses : (before : List RawFormula) (rest : List Token) → outer_member_at c.wider line before (c.mark ∷ rest) ≡ Err (fault line c.kind)
@@ -553,7 +594,7 @@ module _ (c : Marking) (statements line : ℕ) (few : statements ≤ c.limits.st
   unfolding formula_at
   formula_same some a b marked =
       same_bind ((members_both [] (refl, refl) (omega arith) (outer_member_at c.limits line) (outer_member_at c.wider line) (outer_both some)).each [] a b marked)
-      (λ x y l. same_bind (subst (λ (q : Bool). FormulaSame [] (or_alternatives c.limits line (list_any asks_one_use x.0) x.0 x.1) (or_alternatives c.wider line q y.0 y.1)) (ap (list_any asks_one_use) l.0) (alternatives_same (list_any asks_one_use x.0) x y l))
+      (λ x y l. same_bind (subst (λ (q : Bool). FormulaSame [] (or_alternatives c.limits line (list_any is_outer x.0) x.0 x.1) (or_alternatives c.wider line q y.0 y.1)) (ap (list_any is_outer) l.0) (alternatives_same (list_any is_outer x.0) x y l))
       (λ u v m. same_bind (line_end_same m.1.0 true u.1 v.1 m.1.2) (λ s t e. read (u.0, s) (v.0, t) (m.0, e)) (λ t never. absurd never))
       (λ v s. rw s.1 (meets_bind (line_end_met s.0) (λ t never. absurd never))))
-      (λ y s. meets_bind (alternatives_stops (list_any asks_one_use y.0) y s) (λ v t. rw t.1 (meets_bind (line_end_met t.0) (λ r never. absurd never))))
+      (λ y s. meets_bind (alternatives_stops (list_any is_outer y.0) y s) (λ v t. rw t.1 (meets_bind (line_end_met t.0) (λ r never. absurd never))))

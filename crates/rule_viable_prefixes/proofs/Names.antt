@@ -1,5 +1,5 @@
 -- In a rule file another line begins behind a rule's name.
-use Rattle.rule_viable_prefixes.proofs.Common.{◌≡◌, ℕ, Bool, true, false, List, [], ◌∷◌, ◌++◌, map, Option, Some, None, refl, sym, ap, subst, ◌∙◌, append_assoc, ◌⊎◌, inl, inr, codes, Flag, flag_keyword, Version, Limits, Part, Comma, ◌⨾◌, Maybe, SpellsType, Token, Line, Name, Register, Word, Number, Arrow, Mark, TermPlace, RawNode, RawFormula, Standing, Level, SpellsFormula, compares, tests, turns, encloses, member, both, members, either, SpellsLeaf, SpellsTerm, leaf, width, parenthesised, called, prefixed, tighter, joined, Half, Source, Target, RawRule, RawStatement, RawPrecondition, RawWitness, RawOp, Binary, Unary, Select, Convert, Freeze, Copy, RawOperand, RawArgument, Operation, SpellsArgument, SpellsOperand, SpellsPair, SpellsTruth, SpellsOpcode, SpellsTo, SpellsOp, SpellsStatements, SpellsPrecondition, SpellsMoreExpressions, SpellsExpressions, SpellsWitness, SpellsRule, SpellsRules, SpellsVersion, SpellsFile, opcode_token, operation_word, is_apart, token_with}
+use Rattle.rule_viable_prefixes.proofs.Common.{◌≡◌, ℕ, Bool, true, false, List, [], ◌∷◌, ◌++◌, map, Option, Some, None, refl, sym, ap, subst, ◌∙◌, append_assoc, ◌⊎◌, inl, inr, codes, Flag, flag_keyword, Version, Limits, Part, Comma, ◌⨾◌, Maybe, SpellsType, Token, Line, Name, Register, Word, Number, Arrow, Mark, TermPlace, RawNode, RawFormula, Standing, Level, SpellsFormula, compares, tests, masked, non_zero, turns, encloses, member, both, members, either, SpellsLeaf, SpellsTerm, leaf, width, parenthesised, called, prefixed, tighter, joined, Half, Source, Target, RawRule, RawStatement, RawPrecondition, RawWitness, RawOp, Binary, Unary, Select, Convert, Freeze, Copy, RawOperand, RawArgument, Operation, SpellsArgument, SpellsOperand, SpellsPair, SpellsTruth, SpellsOpcode, SpellsTo, SpellsOp, SpellsStatements, SpellsPrecondition, SpellsMoreExpressions, SpellsExpressions, SpellsWitness, SpellsRule, SpellsRules, SpellsVersion, SpellsFile, opcode_token, operation_word, is_apart, token_with}
 use Rattle.ops.specs.declared.opcode.Unary.{Unary as Intrinsic}
 use Rattle.rule_terms.specs.declared.raw.RawNode.TheVariants as raw_nodes
 use Rattle.rule_terms.specs.Formulas.{one_use}
@@ -50,6 +50,8 @@ module _ (limits : Limits) where
   formula_plain (compares {front = front} {back = back} pred l r) = both_nameless front (Mark _ ∷ back) (term_plain l) (term_plain r)
   formula_plain (tests {own = own} predicate is) = both_nameless own (Mark (codes ")") ∷ []) (term_plain is) tt
   formula_plain (one_use le) = tt
+  formula_plain (masked {own = own} le is) = both_nameless own (Mark (codes ")") ∷ []) (term_plain is) tt
+  formula_plain (non_zero le) = tt
   formula_plain (turns is) = formula_plain is
   formula_plain (encloses {own = own} is) = both_nameless own (Mark (codes ")") ∷ []) (formula_plain is) tt
   formula_plain (member is) = formula_plain is

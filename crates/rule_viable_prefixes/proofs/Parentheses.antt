@@ -1,7 +1,8 @@
 -- A parenthesis that is open at the end of a prefix may enclose a term or a formula, as long as no token in it stands
 -- in formulas alone.
-use Rattle.rule_viable_prefixes.proofs.Common.{◌≡◌, ℕ, zero, suc, ◌≤◌, Bool, true, false, List, [], ◌∷◌, ◌++◌, length, refl, sym, ap, subst, ◌∙◌, append_assoc, arith, codes, bytes_eq, append-nil, is_among, Negate, Log2, Abs, Token, Line, Word, Mark, EndsLine, RawFormula, RawNode, opens_behind, opens_formula, sign_of, comparison_mark, formula_words, Standing, Level, SpellsFormula, compares, tests, turns, encloses, member, both, members, either, SpellsLeaf, SpellsTerm, SpellsWholeTerm, leaf, width, parenthesised, called, prefixed, tighter, joined, loosest, operator_mark, IsPrefix, term_plain, comparison_says, predicate_says, formula_says, spells_some, Limits}
+use Rattle.rule_viable_prefixes.proofs.Common.{◌≡◌, ℕ, zero, suc, ◌≤◌, Bool, true, false, List, [], ◌∷◌, ◌++◌, length, refl, sym, ap, subst, ◌∙◌, append_assoc, arith, codes, bytes_eq, append-nil, is_among, Negate, Log2, Abs, Token, Line, Word, Fact, Mark, EndsLine, RawFormula, RawNode, opens_behind, opens_formula, sign_of, comparison_mark, formula_words, Standing, Level, SpellsFormula, compares, tests, masked, non_zero, turns, encloses, member, both, members, either, SpellsLeaf, SpellsTerm, SpellsWholeTerm, leaf, width, parenthesised, called, prefixed, tighter, joined, loosest, operator_mark, IsPrefix, term_plain, comparison_says, predicate_says, formula_says, spells_some, Limits}
 use Rattle.rule_core.specs.declared.rule.Function.TheVariants.{Not}
+use Rattle.rule_tokens.specs.declared.fact.BitFact.TheVariants as facts
 use Rattle.rule_terms.specs.declared.formula_word.Sign.{Sign}
 use Rattle.rule_terms.specs.declared.formula_word.Sign.TheVariants as signs
 use Rattle.rule_terms.specs.declared.place.TermPlace.TheVariants.{Constant}
@@ -147,6 +148,14 @@ module _ (spare_bytes deepest spare_statements : ℕ) where
   term_instead (one_use {nesting = nesting} le) (t ∷ front) more b depth same unseen =
       let first : Word (codes "hasOneUse") ≡ t = let e = same in cc in
       not_both (opens_formula depth (t ∷ front ++ b)) (subst (λ (u : Token). opens_formula depth (u ∷ front ++ b) ≡ true) first (says (Word (codes "hasOneUse")) depth (front ++ b) refl)) unseen
+  term_instead (masked {nesting = nesting} le is) [] more b depth same unseen = nothing_begins (suc nesting)
+  term_instead (masked {nesting = nesting} le is) (t ∷ front) more b depth same unseen =
+      let first : Fact facts.MaskedValueIsZero ≡ t = let e = same in cc in
+      not_both (opens_formula depth (t ∷ front ++ b)) (subst (λ (u : Token). opens_formula depth (u ∷ front ++ b) ≡ true) first (says (Fact facts.MaskedValueIsZero) depth (front ++ b) refl)) unseen
+  term_instead (non_zero {nesting = nesting} le) [] more b depth same unseen = nothing_begins nesting
+  term_instead (non_zero {nesting = nesting} le) (t ∷ front) more b depth same unseen =
+      let first : Fact facts.IsKnownNonZero ≡ t = let e = same in cc in
+      not_both (opens_formula depth (t ∷ front ++ b)) (subst (λ (u : Token). opens_formula depth (u ∷ front ++ b) ≡ true) first (says (Fact facts.IsKnownNonZero) depth (front ++ b) refl)) unseen
   term_instead (turns {nesting = nesting} inside) [] more b depth same unseen = nothing_begins (suc nesting)
   term_instead (turns {nesting = nesting} inside) (t ∷ front) more b depth same unseen =
       let first : Mark (codes "!") ≡ t = let e = same in cc in

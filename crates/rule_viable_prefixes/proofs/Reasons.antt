@@ -1,5 +1,6 @@
 -- Why a token does not fit within limits, by which other tokens fit in its place.
-use Rattle.rule_viable_prefixes.proofs.Common.{◌≡◌, ◌≢◌, ◌⊎◌, ℕ, ◌+◌, ◌<◌, ◌≤◌, List, [], ◌∷◌, length, IsTrue, if◌then◌else◌, codes, is_constant, is_among, Function, RuleFaultKind, BadByte, Syntax, LeftOut, TooMany, Limits, Token, Line, Head, Name, Register, Word, Number, Arrow, Mark, Bad, Predicate, predicate_word, IsPrefix, IsCalled, IsChoice, Fitting, NounFits, RepeatsFlag}
+use Rattle.rule_viable_prefixes.proofs.Common.{◌≡◌, ◌≢◌, ◌⊎◌, ℕ, ◌+◌, ◌<◌, ◌≤◌, List, [], ◌∷◌, length, IsTrue, if◌then◌else◌, codes, is_constant, is_among, Function, RuleFaultKind, BadByte, Syntax, LeftOut, TooMany, Limits, Token, Line, Head, Name, Register, Word, Fact, Number, Arrow, Mark, Bad, Predicate, predicate_word, IsPrefix, IsCalled, IsChoice, Fitting, NounFits, RepeatsFlag}
+use Rattle.rule_tokens.specs.declared.fact.BitFact.TheVariants as facts
 
 -- ---- nesting
 
@@ -11,6 +12,7 @@ pub data Nests : Token → Type 0 where
   width : Nests (Word (codes "width"))
   negation : Nests (Mark (codes "!"))
   test : (predicate : Predicate) → Nests (Word (predicate_word predicate))
+  masked : Nests (Fact facts.MaskedValueIsZero)
 
 -- marks that may open a level of nesting; `-` may also be binary
 abbrev pub opening_marks : List (List ℕ)
@@ -84,11 +86,17 @@ abbrev pub kind_at : List Token → RuleFaultKind
 kind_at (Bad ∷ tokens) = BadByte
 kind_at tokens = Syntax
 
--- A function or a predicate that is nested too deep and has no `(` behind it is told by the kind of the token behind
--- it: `log2 +` behind 32 `(`.
+-- it names what stands in parentheses behind it
+abbrev pub IsApplied : Token → Type 0
+IsApplied (Word word) = Unit {0}
+IsApplied (Fact fact) = Unit {0}
+IsApplied token = ⊥
+
+-- Such a token that is nested too deep, with no `(` behind it, is told as the token behind it is: `log2 +` behind 32
+-- `(`.
 abbrev pub IsReadOn : Limits → ℕ → Fitting → Token → List Token → RuleFaultKind → Type 0
 IsReadOn limits opened fits token behind kind =
-    (word : List ℕ) × (token ≡ Word word) × IsTooDeep limits opened fits token × ((more : List Token) → behind ≢ Mark (codes "(") ∷ more) × (kind ≡ kind_at behind)
+    IsApplied token × IsTooDeep limits opened fits token × ((more : List Token) → behind ≢ Mark (codes "(") ∷ more) × (kind ≡ kind_at behind)
 
 -- what the kind says of the token at the fault, or of the tokens behind it
 pub data IsMisfit (limits : Limits) (opened : ℕ) (fits : Fitting) (token : Token) (behind : List Token) (kind : RuleFaultKind) : Type 0 where

@@ -399,7 +399,7 @@ module _ (spare_bytes deepest spare_statements : ℕ) (version : Version) where
 
       of_word : IsMisfit limits before fits token tokens (LeftOut left) → token ≡ Word left
       of_word (itself says) = says.0
-      of_word (read_on (word, same_word_, deep, none, e)) = absurd (first_kind tokens e)
+      of_word (read_on (applied, deep, none, e)) = absurd (first_kind tokens e)
 
   begins_other : (set : Flags) (own rest : List Token) → BeginsOperand limits own → next_flag set (own ++ rest) ≡ None
   begins_other set (Register name ∷ ts) rest begins = refl

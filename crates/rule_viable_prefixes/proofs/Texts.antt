@@ -1,6 +1,6 @@
 -- The tokens of a text begin with a line's number, and so do those behind a rule's name, which reaches to the end of
 -- its line.
-use Rattle.rule_viable_prefixes.proofs.Common.{◌≡◌, ◌≢◌, ℕ, zero, suc, ◌+◌, ◌-◌, ◌<◌, ◌≤◌, Bool, true, false, not, ◌||◌, cond, eqb, List, [], ◌∷◌, length, take, drop, Option, Some, None, refl, sym, ap, subst, ◌∙◌, ⊎_elim, ◌⊎◌, inl, inr, arith, length-drop, codes, prefix_len, bytes_eq, eqb-true, one-add, drop-drop, length-take-le, prefix_len-le-length, same_word, RuleKind, RuleToken, is_blank, is_space, is_printable, is_bad, is_digit, is_letter, is_word_byte, begins_with, IsGap, nothing, space, comment, between, feeds, is_in_rest, rest_of_line, is_unsigned_operator, is_remainder, is_placed_operator, is_mark, is_register, is_rule_word, is_negative, is_literal, kind_of, IsLongestToken, IsGapBefore, line_at, in_operator_place, IsNextRuleToken, IsBadNext, which, feeds_append, feeds_between, run_feeds, ends_or_not, Token, Line, Head, Name, Register, Word, Number, Mark, Bad, Excess, word_of, token_of, token_at, token_on, is_called, Place, AtName, place_behind, bytes_at, TokensFrom, bad_token, bad_name, AreTokens, EndsLine, Context, at_start, context_behind, behind_name, is_opcode, limited_to, room_behind, or_excess, IsOfText, AreOfText}
+use Rattle.rule_viable_prefixes.proofs.Common.{◌≡◌, ◌≢◌, ℕ, zero, suc, ◌+◌, ◌-◌, ◌<◌, ◌≤◌, Bool, true, false, not, ◌||◌, cond, eqb, List, [], ◌∷◌, length, take, drop, Option, Some, None, refl, sym, ap, subst, ◌∙◌, ⊎_elim, ◌⊎◌, inl, inr, arith, length-drop, codes, prefix_len, bytes_eq, eqb-true, one-add, drop-drop, length-take-le, prefix_len-le-length, same_word, RuleKind, RuleToken, is_blank, is_space, is_printable, is_bad, is_digit, is_letter, is_word_byte, begins_with, IsGap, nothing, space, comment, between, feeds, is_in_rest, rest_of_line, is_unsigned_operator, is_remainder, is_placed_operator, is_mark, is_register, is_rule_word, is_negative, is_literal, kind_of, IsLongestToken, IsGapBefore, line_at, in_operator_place, IsNextRuleToken, IsBadNext, which, feeds_append, feeds_between, run_feeds, ends_or_not, Token, Line, Head, Name, Register, Word, Fact, Number, Mark, Bad, Excess, word_of, token_of, token_at, token_on, is_called, Place, AtName, place_behind, bytes_at, TokensFrom, bad_token, bad_name, AreTokens, EndsLine, Context, BitFact, at_start, context_behind, behind_name, is_opcode, fact_in, limited_to, room_behind, or_excess, IsOfText, AreOfText}
 use Rattle.scan.specs.declared.rule_token.RuleKind.TheVariants as kinds
 use Rattle.scan.specs.Lines.{line_of}
 use Rattle.scan.specs.RuleTokens.{Begins}
@@ -192,16 +192,17 @@ begins_lines text c at line tokens last place is (name found more) later_token l
 begins_lines text c at line tokens last place is (bad_token bad) later_token later_bad = on_another line last Bad [] (later_bad last bad)
 begins_lines text c at line tokens last place is (bad_name bad) later_token later_bad = absurd cc
 
-no_word_name : (opcode : Bool) (bytes : List ℕ) (tokens : List Token) → NamesEndLines tokens → NamesEndLines (word_of opcode bytes ∷ tokens)
-no_word_name true bytes tokens n = n
-no_word_name false bytes tokens n = n
+no_word_name : (fact : Option BitFact) (opcode : Bool) (bytes : List ℕ) (tokens : List Token) → NamesEndLines tokens → NamesEndLines (word_of fact opcode bytes ∷ tokens)
+no_word_name (Some fact) opcode bytes tokens n = n
+no_word_name None true bytes tokens n = n
+no_word_name None false bytes tokens n = n
 
 no_name : (c : Context) (called : Bool) (kind : RuleKind) (bytes : List ℕ) (tokens : List Token) → NamesEndLines tokens → NamesEndLines (token_of c called kind bytes ∷ tokens)
 no_name c called kinds.End bytes tokens n = n
 no_name c called kinds.Other bytes tokens n = n
 no_name c called kinds.Head bytes tokens n = n
 no_name c called kinds.Register bytes tokens n = n
-no_name c called kinds.Word bytes tokens n = no_word_name (is_opcode c called bytes) bytes tokens n
+no_name c called kinds.Word bytes tokens n = no_word_name (fact_in c.version bytes) (is_opcode c called bytes) bytes tokens n
 no_name c called kinds.Number bytes tokens n = n
 no_name c called kinds.Arrow bytes tokens n = n
 no_name c called kinds.Mark bytes tokens n = n
@@ -246,16 +247,17 @@ text_begins text tokens last are =
 
 -- ---- tokens of texts
 
-of_word : (opcode : Bool) (bytes : List ℕ) → IsOfText (word_of opcode bytes)
-of_word true bytes = tt
-of_word false bytes = tt
+of_word : (fact : Option BitFact) (opcode : Bool) (bytes : List ℕ) → IsOfText (word_of fact opcode bytes)
+of_word (Some fact) opcode bytes = tt
+of_word None true bytes = tt
+of_word None false bytes = tt
 
 of_kind : (c : Context) (called : Bool) (kind : RuleKind) (bytes : List ℕ) → IsOfText (token_of c called kind bytes)
 of_kind c called kinds.End bytes = tt
 of_kind c called kinds.Other bytes = tt
 of_kind c called kinds.Head bytes = tt
 of_kind c called kinds.Register bytes = tt
-of_kind c called kinds.Word bytes = of_word (is_opcode c called bytes) bytes
+of_kind c called kinds.Word bytes = of_word (fact_in c.version bytes) (is_opcode c called bytes) bytes
 of_kind c called kinds.Number bytes = tt
 of_kind c called kinds.Arrow bytes = tt
 of_kind c called kinds.Mark bytes = tt
@@ -290,14 +292,15 @@ unfolding kind_of is_mark is_placed_operator is_unsigned_operator is_remainder i
 word_kind true rest = refl
 word_kind false rest = refl
 
-proper_word : (opcode : Bool) (bytes : List ℕ) → IsProper (word_of opcode bytes)
-proper_word true bytes = tt
-proper_word false bytes = tt
+proper_word : (fact : Option BitFact) (opcode : Bool) (bytes : List ℕ) → IsProper (word_of fact opcode bytes)
+proper_word (Some fact) opcode bytes = tt
+proper_word None true bytes = tt
+proper_word None false bytes = tt
 
 proper_kind : (c : Context) (called operator : Bool) (text : List ℕ) (kind : RuleKind) (n : ℕ) → Begins operator text kind n → IsProper (token_of c called kind (take n text))
 proper_kind c called operator text kinds.Number n is = λ same.
     let found = sym is.of_kind ∙ ap (λ (bytes : List ℕ). kind_of operator bytes (drop n text)) same ∙ word_kind operator (drop n text) in absurd cc
-proper_kind c called operator text kinds.Word n is = proper_word (is_opcode c called (take n text)) (take n text)
+proper_kind c called operator text kinds.Word n is = proper_word (fact_in c.version (take n text)) (is_opcode c called (take n text)) (take n text)
 proper_kind c called operator text kinds.End n is = tt
 proper_kind c called operator text kinds.Other n is = tt
 proper_kind c called operator text kinds.Head n is = tt
@@ -341,6 +344,7 @@ limited_names room begins (Head text ∷ tokens) n = cut_off (Head text) (room_b
 limited_names room begins (Register text ∷ tokens) n = cut_off (Register text) (room_behind room begins (Register text)) (λ left. limited_to left false tokens) (λ left. limited_names left false tokens n) (λ ts m. m)
 limited_names room begins (Word text ∷ tokens) n = cut_off (Word text) (room_behind room begins (Word text)) (λ left. limited_to left false tokens) (λ left. limited_names left false tokens n) (λ ts m. m)
 limited_names room begins (Opcode text ∷ tokens) n = limited_names room false tokens n
+limited_names room begins (Fact fact ∷ tokens) n = cut_off (Fact fact) (room_behind room begins (Fact fact)) (λ left. limited_to left false tokens) (λ left. limited_names left false tokens n) (λ ts m. m)
 limited_names room begins (Number text ∷ tokens) n = cut_off (Number text) (room_behind room begins (Number text)) (λ left. limited_to left false tokens) (λ left. limited_names left false tokens n) (λ ts m. m)
 limited_names room begins (Mark text ∷ tokens) n = cut_off (Mark text) (room_behind room begins (Mark text)) (λ left. limited_to left false tokens) (λ left. limited_names left false tokens n) (λ ts m. m)
 limited_names room begins (first ∷ tokens) n = limited_names room false tokens n

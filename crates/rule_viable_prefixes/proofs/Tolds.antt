@@ -1,5 +1,5 @@
 -- What the kind of a fault says of the token that it is at, on a line with this many marks that may open a level.
-use Rattle.rule_viable_prefixes.proofs.Common.{◌≡◌, ◌≢◌, ℕ, ◌≤◌, Bool, true, false, cond, List, [], ◌∷◌, refl, sym, ap, subst, ◌∙◌, ◌⊎◌, inl, inr, arith, codes, bytes_eq, RuleFaultKind, BadByte, Syntax, LeftOut, TooMany, Limits, unexpected, misplaced_word, left_out, Token, Line, Head, Name, Register, Word, Number, Arrow, Mark, Bad, Excess, same_word, Fitting, NounFits}
+use Rattle.rule_viable_prefixes.proofs.Common.{◌≡◌, ◌≢◌, ℕ, ◌≤◌, Bool, true, false, cond, List, [], ◌∷◌, refl, sym, ap, subst, ◌∙◌, ◌⊎◌, inl, inr, arith, codes, bytes_eq, RuleFaultKind, BadByte, Syntax, LeftOut, TooMany, Limits, unexpected, misplaced_word, left_out, BitFact, Token, Line, Head, Name, Register, Word, Fact, Number, Arrow, Mark, Bad, Excess, same_word, Fitting, NounFits}
 use Rattle.rule_tokens.specs.Tokens.{Opcode, Other}
 use Rattle.rule_viable_prefixes.proofs.Reasons.{IsTooDeep, IsTooMany, name, register, constant, choice, statement, nesting, Says, kind_at, IsMisfit, itself, read_on}
 
@@ -57,6 +57,7 @@ module _ (limits : Limits) where
   says_unexpected line (Register text) more why = says_syntax (Register text) more tt
   says_unexpected line (Word text) more why = says_word text more (why text refl)
   says_unexpected line (Opcode text) more why = says_syntax (Opcode text) more tt
+  says_unexpected line (Fact fact) more why = says_syntax (Fact fact) more tt
   says_unexpected line (Number text) more why = says_syntax (Number text) more tt
   says_unexpected line Arrow more why = says_syntax Arrow more tt
   says_unexpected line (Mark text) more why = says_syntax (Mark text) more tt
@@ -80,6 +81,7 @@ module _ (limits : Limits) where
   says_left_out noun line (Name text) more = says_syntax (Name text) more tt
   says_left_out noun line (Register text) more = says_syntax (Register text) more tt
   says_left_out noun line (Opcode text) more = says_syntax (Opcode text) more tt
+  says_left_out noun line (Fact fact) more = says_syntax (Fact fact) more tt
   says_left_out noun line (Number text) more = says_syntax (Number text) more tt
   says_left_out noun line Arrow more = says_syntax Arrow more tt
   says_left_out noun line (Mark text) more = says_syntax (Mark text) more tt
@@ -98,10 +100,15 @@ module _ (limits : Limits) where
   says_deep {opened} {fits} {none} word deep tokens kind (inl is) = subst (Told opened fits none (Word word) tokens) (sym is) (says_too_many (Word word) tokens (nesting (Word word) deep))
   says_deep {opened} {fits} {none} word deep (Excess ∷ tokens) kind (inr (none_, is)) = subst (Told opened fits none (Word word) (Excess ∷ tokens)) (sym is) (says_too_many (Word word) (Excess ∷ tokens) (nesting (Word word) deep))
   says_deep {opened} {fits} {none} word deep tokens kind (inr (none_, is)) = record {
-    misfit = λ read. read_on (word, refl, deep, none_, is);
+    misfit = λ read. read_on (tt, deep, none_, is);
     excess = λ is_excess. absurd cc;
     lacks = λ kind_ other is_other. inl (subst (Excuse opened fits) (let equal = is_other in cc) (inr deep));
   }
+
+  pub says_deep_fact : {opened : ℕ} {fits : Fitting} {none : List ℕ → Type 0} (fact : BitFact) → IsTooDeep limits opened fits (Fact fact) → (tokens : List Token) (kind : RuleFaultKind) → IsTold tokens kind → Told opened fits none (Fact fact) tokens kind
+  says_deep_fact {opened} {fits} {none} fact deep tokens kind (inl is) = subst (Told opened fits none (Fact fact) tokens) (sym is) (says_too_many (Fact fact) tokens (nesting (Fact fact) deep))
+  says_deep_fact {opened} {fits} {none} fact deep (Excess ∷ tokens) kind (inr (none_, is)) = subst (Told opened fits none (Fact fact) (Excess ∷ tokens)) (sym is) (says_too_many (Fact fact) (Excess ∷ tokens) (nesting (Fact fact) deep))
+  says_deep_fact {opened} {fits} {none} fact deep tokens kind (inr (none_, is)) = record { misfit = λ read. read_on (tt, deep, none_, is); excess = λ is_excess. absurd cc; lacks = λ kind_ other is_other. absurd cc }
 
 -- ---- the same where more tokens fit, and behind more such marks
 
@@ -124,7 +131,7 @@ module _ (inner limits : Limits) (a b : ℕ) (bytes : inner.name_bytes ≡ limit
 
   pub misfit_carried : (token : Token) (tokens : List Token) (kind : RuleFaultKind) → IsMisfit inner a P token tokens kind → IsMisfit limits b Q token tokens kind
   misfit_carried token tokens kind (itself is) = itself (kind_carried token kind is)
-  misfit_carried token tokens kind (read_on (word, is, (far, nests, fits), none, told)) = read_on (word, is, (deep far, nests, f (Number (codes "0")) fits), none, told)
+  misfit_carried token tokens kind (read_on (applied, (far, nests, fits), none, told)) = read_on (applied, (deep far, nests, f (Number (codes "0")) fits), none, told)
 
   pub says_carried : {C D : List ℕ → Type 0} (tokens : List Token) → ((word : List ℕ) (rest : List Token) → tokens ≡ Word word ∷ rest → C word → D word)
       → (kind : RuleFaultKind) → SaysFirst inner a P C tokens kind → SaysFirst limits b Q D tokens kind

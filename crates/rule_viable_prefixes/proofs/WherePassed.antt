@@ -63,7 +63,7 @@ length_front (u ∷ tokens) (t ∷ front) back is = let rest : tokens ≡ front 
 
 -- a byte that may not stand is told as `BadByte`, and nothing else is
 pub only_bad : (limits : Limits) (n : ℕ) (front : List Token) (fits : Fitting) (token : Token) (behind : List Token) (kind : RuleFaultKind) → n < limits.nested → IsMisfit limits n fits token behind kind ⊎ IsOtherVersion front token kind → kind ≡ BadByte → token ≡ Bad
-only_bad limits n front fits token behind kind less (inl (read_on (word, is, (far, nests, more), missed, told))) e = absurd (omega (arith, far, less))
+only_bad limits n front fits token behind kind less (inl (read_on (applied, (far, nests, more), missed, told))) e = absurd (omega (arith, far, less))
 only_bad limits n front fits token behind kind less (inr (line, left, there, is, told)) e = let both = sym told ∙ e in absurd cc
 only_bad limits n front fits token behind BadByte less (inl (itself is)) e = is
 only_bad limits n front fits token behind TooMany less (inl (itself is)) e = absurd cc
@@ -81,7 +81,7 @@ no_bad_too_many limits n fits token less (kinds.statement name is) e = absurd cc
 no_bad_too_many limits n fits token less (kinds.nesting t (far, nests, more)) e = absurd (omega (arith, far, less))
 
 pub no_bad : (limits : Limits) (n : ℕ) (front : List Token) (fits : Fitting) (token : Token) (behind : List Token) (kind : RuleFaultKind) → n < limits.nested → IsMisfit limits n fits token behind kind ⊎ IsOtherVersion front token kind → kind ≡ TooMany → token ≡ Bad → ⊥
-no_bad limits n front fits token behind kind less (inl (read_on (word, is, (far, nests, more), missed, told))) e b = absurd (omega (arith, far, less))
+no_bad limits n front fits token behind kind less (inl (read_on (applied, (far, nests, more), missed, told))) e b = absurd (omega (arith, far, less))
 no_bad limits n front fits token behind kind less (inr (line, left, there, is, told)) e b = let both = sym told ∙ e in absurd cc
 no_bad limits n front fits token behind TooMany less (inl (itself is)) e b = no_bad_too_many limits n fits token less is b
 no_bad limits n front fits token behind BadByte less (inl (itself is)) e b = absurd cc

@@ -1,5 +1,6 @@
 -- What the parsers of formulas read within wider limits.
-use Rattle.rule_viable_prefixes.proofs.Common.{ℕ, zero, suc, ◌≤◌, Bool, true, false, List, [], ◌∷◌, length, refl, arith, codes, drop, list_any, bytes_eq, Limits, AreWithin, Token, Register, Word, Opening, Turns, Encloses, Tests, Compares, Predicate, RawFormula, And, Or, compares_at, tests_at, one_use_at, joins, members_of, more_alternatives, alternatives_of, turns_at, encloses_at, member_at, outer_member_at, asks_one_use, or_alternatives, formula_at}
+use Rattle.rule_viable_prefixes.proofs.Common.{ℕ, zero, suc, ◌≤◌, Bool, true, false, List, [], ◌∷◌, length, refl, arith, codes, drop, list_any, bytes_eq, Limits, AreWithin, Token, Register, Word, Fact, Opening, Turns, Encloses, Tests, Compares, Predicate, RawFormula, And, Or, compares_at, tests_at, one_use_at, masked_at, non_zero_at, joins, members_of, more_alternatives, alternatives_of, turns_at, encloses_at, member_at, outer_member_at, is_outer, or_alternatives, formula_at}
+use Rattle.rule_tokens.specs.declared.fact.BitFact.TheVariants as facts
 use Rattle.rule_terms.specs.declared.place.TermPlace.TheVariants.{Constant}
 use Rattle.rule_terms.specs.Chains.{Reader}
 use Rattle.rule_terms.specs.FormulaReaders.{opening_at, register_at, begun_at, too_deep}
@@ -48,6 +49,20 @@ module _ (limits wider : Limits) (within : AreWithin wider limits) where
   unfolding one_use_at
   one_use_below line before tokens = below_bind (same_answer refl) (λ opened. below_bind (register_below line opened) (λ register. same_answer refl))
 
+  masked_below : (n m : ℕ) → n ≤ m → (line : ℕ) → BelowReader (masked_at limits n line) (masked_at wider m line)
+  unfolding masked_at
+  masked_below zero m le line before tokens = below_bind (same_answer refl) (λ opened. too_many line refl)
+  masked_below (suc n) zero le line before tokens = absurd (omega arith)
+  masked_below (suc n) (suc m) le line before tokens =
+      below_bind (same_answer refl)
+      (λ opened. below_bind (register_below line opened)
+      (λ register. below_bind (same_answer refl)
+      (λ behind. below_bind (term_below limits wider within Constant n m (omega arith) line behind) (λ term. same_answer refl))))
+
+  non_zero_below : (line : ℕ) → BelowReader (non_zero_at limits line) (non_zero_at wider line)
+  unfolding non_zero_at
+  non_zero_below line before tokens = below_bind (same_answer refl) (λ opened. below_bind (register_below line opened) (λ register. same_answer refl))
+
   begun_below : (o : Opening) (n m : ℕ) → n ≤ m → (line : ℕ) (p q : Reader (List RawFormula)) → BelowReader p q → BelowReader (begun_at limits o n line p) (begun_at wider o m line q)
   begun_below Turns n m le line p q below before tokens = turns_below p q below before (drop 1 tokens)
   begun_below Encloses n m le line p q below before tokens = encloses_below line p q below before (drop 1 tokens)
@@ -67,6 +82,8 @@ module _ (limits wider : Limits) (within : AreWithin wider limits) where
   outer_below : (line : ℕ) → BelowReader (outer_member_at limits line) (outer_member_at wider line)
   unfolding outer_member_at
   outer_below line before (Word word ∷ rest) = below_if (bytes_eq word (codes "hasOneUse")) (one_use_below line before rest) (member_below limits.nested wider.nested within.nested line before (Word word ∷ rest))
+  outer_below line before (Fact facts.MaskedValueIsZero ∷ rest) = masked_below limits.nested wider.nested within.nested line before rest
+  outer_below line before (Fact facts.IsKnownNonZero ∷ rest) = non_zero_below line before rest
   outer_below line before tokens = member_below limits.nested wider.nested within.nested line before tokens
 
   or_alternatives_below : (line : ℕ) (asks : Bool) → BelowReader (or_alternatives limits line asks) (or_alternatives wider line asks)
@@ -77,4 +94,4 @@ module _ (limits wider : Limits) (within : AreWithin wider limits) where
   unfolding formula_at
   formula_below line tokens =
       below_bind (members_below (outer_member_at limits line) (outer_member_at wider line) (outer_below line) [] tokens)
-      (λ first. below_bind (or_alternatives_below line (list_any asks_one_use first.0) first.0 first.1) (λ whole. same_answer refl))
+      (λ first. below_bind (or_alternatives_below line (list_any is_outer first.0) first.0 first.1) (λ whole. same_answer refl))

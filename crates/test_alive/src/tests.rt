@@ -1,5 +1,6 @@
 //! The whole program, with files and sinks in memory.
 
+mod facts;
 mod faults;
 mod folding;
 mod freezes;

@@ -1,7 +1,8 @@
-//! Rules and functions that are read: where the rules match, what they rewrite and what is reported to change, and how
-//! often registers are used.
+//! Rules and functions that are read: where the rules match, which functions come of it and what changed, how often
+//! registers are used, and which bits of operands are known.
 
 mod applied;
+mod facts;
 mod folded;
 mod matches;
 mod reading;

@@ -2,7 +2,7 @@ use Rattle.bindings.proofs.Common.{refl, sym, subst, List, Contains, Formula, ho
 use Rattle.ir_core.specs.declared.operand.Operand.{Operand}
 use Rattle.ir_core.specs.declared.operand.Operand.TheVariants as operands
 use Rattle.bindings.proofs.Fitting.{AllMatch, constants_fit}
-use Rattle.bindings.proofs.Uses.{uses_met, uses_asked}
+use Rattle.bindings.proofs.Uses.{uses_met, nothing_said, uses_asked}
 use Rattle.bindings.proofs.Lists.{never_met}
 use Rattle.bindings.proofs.check.is_match.Goals as goal
 use Rattle.bindings.proofs.check.is_match.Goals.{then-not-reached-via-then-not-reached, then-not-reached-via-else-not-reached+then-not-has_sizes, then-not-statements_match-via-then-not-statements_match, then-not-statements_match-via-else-not-statements_match+then-has_undef, then-not-is_typing-via-then-not-is_typing, then-not-is_typing-via-else-not-is_typing+then-not-holds}
@@ -29,10 +29,11 @@ returns c =
         typing = holds c.is_typing.result c.is_typing.ensures c.if-not-is_typing.false;
         precondition = holds c.holds.result c.holds.ensures c.if-not-holds.false;
         one_use = uses_met c.args.f.now c.args.rule.now c.args.binding.now c.args.facts.now c.requires.facts
-            (λ formula among. c.have_one_use.ensures.0 yes formula (subst (λ (fs : List Formula). Contains fs formula) (sym c.as_slice-2.ensures) among));
+            (λ formula among. c.are_met.ensures.0 yes formula (subst (λ (fs : List Formula). Contains fs formula) (sym c.as_slice-2.ensures) among));
+        no_facts = λ formula among. nothing_said c.args.facts.now c.args.binding.now formula (c.are_met.ensures.0 yes formula (subst (λ (fs : List Formula). Contains fs formula) (sym c.as_slice-2.ensures) among));
       },
-      λ m. c.have_one_use.ensures.1 (λ formula among.
-          uses_asked c.args.f.now c.args.rule.now c.args.binding.now c.args.facts.now c.requires.facts m.one_use formula (subst (λ (fs : List Formula). Contains fs formula) c.as_slice-2.ensures among)),
+      λ m. c.are_met.ensures.1 (λ formula among.
+          uses_asked c.args.f.now c.args.rule.now c.args.binding.now c.args.facts.now c.requires.facts m.one_use m.no_facts formula (subst (λ (fs : List Formula). Contains fs formula) c.as_slice-2.ensures among)),
     )
 
 pub returns-then-not-reached : goal.returns-then-not-reached

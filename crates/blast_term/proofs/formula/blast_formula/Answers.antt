@@ -161,6 +161,12 @@ returns-in-IsSignBit-clause-adds g c =
 pub returns-in-HasOneUse-clause-adds : goal.returns-in-HasOneUse-clause-adds
 returns-in-HasOneUse-clause-adds g c = Adds-weaken Adds-refl (omega arith)
 
+pub returns-in-MaskedValueIsZero-clause-adds : goal.returns-in-MaskedValueIsZero-clause-adds
+returns-in-MaskedValueIsZero-clause-adds g c = Adds-weaken Adds-refl (omega arith)
+
+pub returns-in-IsKnownNonZero-clause-adds : goal.returns-in-IsKnownNonZero-clause-adds
+returns-in-IsKnownNonZero-clause-adds g c = Adds-weaken Adds-refl (omega arith)
+
 pub returns-in-Not-clause-adds : goal.returns-in-Not-clause-adds
 returns-in-Not-clause-adds g c = Adds-weaken Adds-refl (omega arith)
 
