@@ -1,8 +1,10 @@
 """Random rules: what the program prints for them beside what `rule_model.py` finds.
 
-    python3 bench/random_rules.py PROGRAM COUNT SEED
+    python3 bench/random_rules.py PROGRAM COUNT SEED [facts]
 
-prints each rule at which they differ, and at the end how many rules had each answer.
+prints each rule at which they differ, and at the end how many rules there were, how many of them were decided, how many of these have
+facts, which are the members of the precondition that say something of bits, and how often there was each answer. With `facts` each rule
+that names a register has some, else one in ten.
 """
 import os
 import random
@@ -21,8 +23,9 @@ SECOND = ['freeze', *EXTREMES, *UNARY]
 
 
 class Maker:
-    def __init__(self, seed):
+    def __init__(self, seed, facts=0):
         self.random = random.Random(seed)
+        self.facts = facts
         self.constants = []
         self.measured = []
 
@@ -61,6 +64,24 @@ class Maker:
         if kind < 0.75:
             return f'({self.formula(depth - 1, leaves)})'
         return f'{self.formula(depth - 1, leaves)} {self.pick(["&&", "||"])} {self.formula(depth - 1, leaves)}'
+
+    def fact(self, registers):
+        """What the precondition says of a register's bits."""
+        register = self.pick(registers)
+        if self.chance(0.3):
+            return f'isKnownNonZero({register})'
+        return f'MaskedValueIsZero({register}, {self.term(self.random.randint(0, 2), self.constants)})'
+
+    def precondition(self, registers):
+        """The members of the outermost `&&`."""
+        members = []
+        if self.constants and self.chance(0.5):
+            members.append(self.formula(2, self.constants))
+        if registers and self.chance(self.facts):
+            members = [f'({member})' if '||' in member else member for member in members]
+            members += [self.fact(registers) for _ in range(self.random.randint(1, 2))]
+            self.random.shuffle(members)
+        return ' && '.join(members)
 
     def operand(self, registers, target, undef):
         x = self.random.random()
@@ -123,14 +144,20 @@ class Maker:
             copied = self.pick(there + new[:-1] + [self.term(2, self.constants)])
             target[-1] = f'%r = {self.type(.1)}{copied}'
         left_open = [sum(' '.join(half).count(word) for word in ('undef', 'freeze')) for half in (source, target)]
-        heads = ['Version: 2'] if any(word in SECOND for s in source + target for word in s.split()) else []
+        before = self.precondition(there)
+        words = set(' '.join(source + target).split())
+        heads = ['Version: 2'] if not words.isdisjoint(SECOND) or has_facts(before) else []
         heads.append(f'Name: {name}')
-        if self.constants and self.chance(0.5):
-            heads.append('Pre: ' + self.formula(2, self.constants))
+        if before:
+            heads.append(f'Pre: {before}')
         if left_open[0]:
             leaves = there + self.constants + [f't{k + 1}' for k in range(left_open[1])]
             heads.append('Wit: ' + ', '.join(self.term(2, leaves) for _ in range(left_open[0])))
         return '\n'.join(heads + source + ['=>'] + target) + '\n'
+
+
+def has_facts(text):
+    return 'MaskedValueIsZero' in text or 'isKnownNonZero' in text
 
 
 def fits(rule, c, width):
@@ -190,8 +217,9 @@ def agrees(rule, run, counts, line):
     return rest == '' and run.returncode == (0 if all_admitted else 1)
 
 
-def main(program, count, seed):
-    maker, counts, differ = Maker(seed), {}, 0
+def main(program, count, seed, facts=None):
+    maker, counts, differ = Maker(seed, 1 if facts else 0.1), {}, 0
+    rules, decided, known = 0, 0, 0
     with tempfile.TemporaryDirectory() as folder:
         path = os.path.join(folder, 'rule.alive')
         for i in range(count):
@@ -199,16 +227,21 @@ def main(program, count, seed):
             if text is None:
                 continue
             rule = rules_of(text)[0]
-            if any(rule.bits(t) > 14 for t in rule.typings([1, 2, 3])):
+            typings = rule.typings([1, 2, 3])
+            if any(rule.bits(t) > 14 for t in typings):
                 continue
+            rules += 1
+            if typings and not fault(rule):
+                decided += 1
+                known += has_facts(text)
             with open(path, 'w') as file:
                 file.write(text)
             run = subprocess.run([program, 'verify', path, '--widths', '1-3'], capture_output=True, text=True)
             if not agrees(rule, run, counts, 1 + text.startswith('Version')):
                 differ += 1
                 print(text, run.returncode, run.stdout, run.stderr, sep='\n')
-    print(counts, 'differ:', differ)
+    print(f'{rules} rules, {decided} decided, {known} of these with facts:', counts, 'differ:', differ)
 
 
 if __name__ == '__main__':
-    main(sys.argv[1], int(sys.argv[2]), int(sys.argv[3]))
+    main(sys.argv[1], int(sys.argv[2]), int(sys.argv[3]), *sys.argv[4:])

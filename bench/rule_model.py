@@ -186,6 +186,15 @@ class Reader:
             register = self.take()
             self.expect(')')
             return ['one', register]
+        if token in ('MaskedValueIsZero', 'isKnownNonZero'):
+            self.take()
+            self.expect('(')
+            fact = [token, self.take()]
+            if token == 'MaskedValueIsZero':
+                self.expect(',')
+                fact.append(self.term())
+            self.expect(')')
+            return fact
         if token == '(':
             start = self.at
             try:
@@ -397,6 +406,8 @@ class Rule:
                 join(place(f[2], 'pre'), place(f[3], 'pre'))
             elif f[0] in ('isPowerOf2', 'isSignBit'):
                 place(f[1], 'pre')
+            elif f[0] == 'MaskedValueIsZero':
+                join(names[f[1]], place(f[2], 'pre'))
             elif f[0] == 'not':
                 formula(f[1])
             elif f[0] in ('and', 'or'):
@@ -470,6 +481,8 @@ class Rule:
                 out.extend(f[2:4])
             elif f[0] in ('isPowerOf2', 'isSignBit'):
                 out.append(f[1])
+            elif f[0] == 'MaskedValueIsZero':
+                out.append(f[2])
             elif f[0] == 'not':
                 formula(f[1])
             elif f[0] in ('and', 'or'):
@@ -489,7 +502,7 @@ class Rule:
             return bin(self.term(typing, f[1], env)).count('1') == 1
         if f[0] == 'isSignBit':
             return self.term(typing, f[1], env) == 1 << (typing[self.of[f[1][-1]]] - 1)
-        if f[0] == 'one':
+        if f[0] in ('one', 'MaskedValueIsZero', 'isKnownNonZero'):
             return True
         if f[0] == 'not':
             return not self.truth(typing, f[1], env)
@@ -500,6 +513,25 @@ class Rule:
         if any(self.term(typing, t, env) is None for t in self.terms()):
             return False
         return self.formula is None or self.truth(typing, self.formula, env)
+
+    def facts(self):
+        """What the precondition says of bits, which stands in the outermost `&&` alone."""
+        out, left = [], [self.formula] if self.formula else []
+        while left:
+            f = left.pop()
+            if f[0] == 'and':
+                left += f[1:]
+            elif f[0] in ('MaskedValueIsZero', 'isKnownNonZero'):
+                out.append(f)
+        return out
+
+    def keeps(self, typing, env):
+        """Whether registers are as the precondition says."""
+        for f in self.facts():
+            value = env[f[1]]
+            if value != POISON and (value == 0 if f[0] == 'isKnownNonZero' else value & self.term(typing, f[2], env)):
+                return False
+        return True
 
     def value(self, typing, node, half, env):
         width = typing[self.of[node[-1]]]
@@ -577,7 +609,7 @@ class Rule:
     def compare(self, typing, env):
         """The chosen numbers and both effects where the source's doesn't allow the target's."""
         effect, env = self.run(typing, 'source', self.source[:-1], 0, env)
-        if effect == UNDEFINED:
+        if effect == UNDEFINED or not self.keeps(typing, env):
             return None
         chosen = [self.term(typing, w, env) or 0 for w in self.witness]
         with_choices = dict(env)
