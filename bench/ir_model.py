@@ -27,7 +27,8 @@ class Function:
         self.labels, self.blocks = [], []
         fresh = sum(1 for name, _, _ in self.parameters if name[1:].isdigit())
         self.open('%' + str(fresh))
-        for line in lines[1:-1]:
+        joined = re.sub(r' \[\n((?:    i\d+ .*\n)*)  \]', lambda m: ' [' + m.group(1).replace('\n', '') + ']', '\n'.join(lines[1:-1]))
+        for line in joined.split('\n'):
             label = re.match(r'([\w.]+):', line)
             if label and not self.blocks[0]:
                 self.labels[0] = '%' + label.group(1)
@@ -70,6 +71,11 @@ class Function:
         if word == 'br':
             _, condition, _, one, _, other = rest.replace(',', ' ').split()
             return None, 'branch', (one, other), [(1, condition)], None
+        if word == 'switch':
+            head, cases = rest.split(' [')
+            width, value, _, other = head.replace(',', ' ').split()
+            found = [(int(case), to) for case, to in re.findall(r'i\d+ (-?\d+), label (\S+?)(?=\s|\])', cases)]
+            return None, word, ([(case % (1 << int(width[1:])), to) for case, to in found], other), [(int(width[1:]), value)], None
         if word == 'unreachable':
             return None, word, None, [], None
         words = words[len(flags):]
@@ -155,6 +161,12 @@ class Function:
                 return [UNDEFINED]
             condition = self.choices(operands[0], held)[0]
             return [UNDEFINED] if condition == POISON else [('go', self.place[extra[0 if condition else 1]], held)]
+        if op == 'switch':
+            if value == 'undef':
+                return [UNDEFINED]
+            number = self.choices(operands[0], held)[0]
+            to = next((to for case, to in extra[0] if case == number), extra[1])
+            return [UNDEFINED] if number == POISON else [('go', self.place[to], held)]
         if self.noundef and value == 'undef':
             return [UNDEFINED]
         values = self.choices(operands[0], held)
