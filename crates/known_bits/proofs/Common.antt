@@ -1,5 +1,5 @@
 -- What the proofs of this crate cite of definitions, of other crates and of the libraries, passed on from one place.
-pub use Rattle.std.proofs.Common.{Bool, List, None, Option, Some, [], ap, append-nil, append_assoc, arith, bit_and, bit_or, bit_xor, div-le_self, drop, false, fold, get_or, if◌then◌else◌, inl, inr, length, length-append, length-drop, map, nat_le, nat_lt, negsuc, not, option_map, pos, pow_mono, refl, replicate, slice_get, subst, suc, sym, take, true, zero, ℕ, ⊎_elim, ◌%◌, ◌&&◌, ◌*ℤ◌, ◌*◌, ◌++◌, ◌+ℤ◌, ◌+◌, ◌-ℤ◌, ◌-◌, ◌/◌, ◌<◌, ◌==◌, ◌^◌, ◌||◌, ◌∙◌, ◌∷◌, ◌≡◌, ◌≤◌, ◌⊎◌}
+pub use Rattle.std.proofs.Common.{Bool, List, None, Option, Some, [], ap, append-nil, append_assoc, arith, bit_and, bit_or, bit_xor, div-le_self, drop, eq-eqb, false, fold, get_or, if◌then◌else◌, inl, inr, length, length-append, length-drop, map, nat_le, nat_lt, negsuc, not, option_map, pos, pow_mono, refl, replicate, slice_get, subst, suc, sym, take, true, zero, ℕ, ⊎_elim, ◌%◌, ◌&&◌, ◌*ℤ◌, ◌*◌, ◌++◌, ◌+ℤ◌, ◌+◌, ◌-ℤ◌, ◌-◌, ◌/◌, ◌<◌, ◌==◌, ◌^◌, ◌||◌, ◌∙◌, ◌∷◌, ◌≡◌, ◌≤◌, ◌⊎◌}
 pub use Rattle.circuits.proofs.Shifts.{length-moved, moved_down_number, moved_up_number}
 pub use Rattle.circuits.proofs.Truth.{adder_total}
 pub use Rattle.circuits.proofs.Words.{bit-le_one, nothing_carried, number-all_zero, number-below, number-extended, number-sub, number-take, remainder, sum_remainder}
@@ -11,9 +11,8 @@ pub use Rattle.circuits.specs.declared.known_bit.KnownBit.{KnownBit}
 pub use Rattle.circuits.specs.declared.known_bit.KnownBit.TheVariants.{One, Unknown, Zero}
 pub use Rattle.circuits.specs.declared.shift.Direction.{Direction}
 pub use Rattle.circuits.specs.declared.shift.Direction.TheVariants.{Down, Up}
-pub use Rattle.ir_core.specs.Checks.{IsFormed, IsInst, IsPhi, IsTyped, MeetsChecks, OperandHasWidth}
+pub use Rattle.ir_core.specs.Checks.{IsFormed, IsInst, IsPhi, IsTyped, OperandHasWidth}
 pub use Rattle.ir_core.specs.Reads.{Read, read, reads_of}
-pub use Rattle.ir_core.specs.Refines.{AreArguments}
 pub use Rattle.ir_core.specs.Run.{AnyNumber, OpGives, OperandGives, Registers}
 pub use Rattle.ir_core.specs.declared.function.Block.{Block}
 pub use Rattle.ir_core.specs.declared.function.Function.{Function}
@@ -24,15 +23,15 @@ pub use Rattle.ir_meaning.proofs.Equations.{equations_here}
 pub use Rattle.ir_meaning.proofs.Following.{width_known}
 pub use Rattle.ir_meaning.proofs.Restricting.{reads_inst}
 pub use Rattle.ir_meaning.proofs.Widths.{held_widths, inst_widths}
-pub use Rattle.ir_meaning.specs.Histories.{IsHistory, Moment}
-pub use Rattle.ir_meaning.specs.HistoryLaws.{NumbersFit}
+pub use Rattle.ir_meaning.specs.HistoryLaws.{EquationHolds, NumbersFit}
 pub use Rattle.ir_meaning.specs.Laws.{HoldWidths, OperandsHaveWidths}
 pub use Rattle.known_bits.specs.Gates.{gate_of}
 unfoldable pub use Rattle.known_bits.specs.KnownBits.{known_results}
-pub use Rattle.known_bits.specs.KnownBits.{insts_of, known_operand, known_result, shifted}
+pub use Rattle.known_bits.specs.KnownBits.{insts_of, known_at, known_operand, known_result, shifted}
 pub use Rattle.known_bits.specs.Laws.{Allows, GivesBits, HasBits, NumbersHaveKnownBits, OperandsHaveKnownBits, ResultsHaveKnownBits}
 pub use Rattle.known_bits.specs.Widths.{HaveWidths}
 pub use Rattle.known_bits.specs.Words.{bit_by_bit, is_known_as, known_of, top_of, unknown}
+pub use Rattle.known_bits.specs.declared.words.Known.{Known}
 unfoldable pub use Rattle.ops.specs.Arithmetic.{arithmetic}
 unfoldable pub use Rattle.ops.specs.Bitwise.{or}
 unfoldable pub use Rattle.ops.specs.Comparison.{selection}
@@ -62,7 +61,7 @@ pub use Rattle.std.proofs.lemmas.Int.{ints}
 pub use Rattle.std.proofs.lemmas.List.{drop_more, get_or-take, get_or_at, length-map, length-replicate, length-take, length-take-le, length_push, map-id, take-append-drop, take-take, take_all, take_more}
 pub use Rattle.std.proofs.lemmas.List.Elements.{All-push}
 pub use Rattle.std.proofs.lemmas.List.Sums.{fold-append}
-pub use Rattle.std.proofs.lemmas.Nat.{and_block, div-mul-add, or_block, pow-add, pow_below, pow_pos, xor_block}
+pub use Rattle.std.proofs.lemmas.Nat.{and_assoc, and_block, and_comm, and_le_l, div-mul-add, or_block, pow-add, pow_below, pow_pos, xor_block}
 pub use Rattle.std.proofs.lemmas.Option.{get_or_from_slice_get, none-some, same_Some, slice_get_cases, slice_get_read, slice_get_within}
 pub use Rattle.std.proofs.lemmas.Result.{IfOk-weaker}
 pub use Rattle.std.specs.Bool.{xor}

@@ -9,3 +9,4 @@ pub mod BlockResults
 pub mod Loops
 pub mod KnownNumbers
 pub mod Holding
+pub mod Places

@@ -1,5 +1,5 @@
 -- The results of instructions on operands that have the bits that are known of them have those that are known of them.
-use Rattle.known_bits.proofs.Common.{◌≡◌, ℕ, ◌+◌, ◌-◌, ◌*◌, ◌/◌, ◌%◌, ◌^◌, ◌<◌, ◌≤◌, Bool, true, false, not, ◌&&◌, ◌||◌, ◌==◌, nat_lt, nat_le, if◌then◌else◌, List, ◌++◌, map, length, take, replicate, refl, length-append, sym, ap, subst, ◌∙◌, arith, bit_and, bit_or, bit_xor, pos, ◌+ℤ◌, ◌-ℤ◌, ◌*ℤ◌, xor, int_div_euclid, length-take-le, length-replicate, Number, bits, signed, residue, fits_unsigned, fits_signed, arithmetic, divides, exactly, shl, lshr, ashr, or, instruction, on_numbers, on_poison, selection, CastFits, conversion, converted, breaks_flags, IsValueOf, Opcode, Add, Sub, Mul, UDiv, SDiv, URem, SRem, Shl, LShr, AShr, And, Or, Xor, UMin, UMax, SMin, SMax, Flags, Cast, Trunc, ZExt, SExt, Value, Poison, Bits, Effect, Undefined, Gives, KnownBit, Zero, One, Up, Down, known_not, known_and, known_or, known_xor, known_agreed, known_sum, moved, bit, number, number-take, number-extended, length-moved, moved_up_number, moved_down_number, Operand, read, Registers, AnyNumber, OperandGives, unknown, bit_by_bit, top_of, shifted, known_result, Allows, HasBits, GivesBits, ResultsHaveKnownBits}
+use Rattle.known_bits.proofs.Common.{◌≡◌, ℕ, ◌+◌, ◌-◌, ◌*◌, ◌/◌, ◌%◌, ◌^◌, ◌<◌, ◌≤◌, Bool, true, false, not, ◌&&◌, ◌||◌, ◌==◌, nat_lt, nat_le, if◌then◌else◌, List, ◌++◌, map, length, take, replicate, refl, length-append, sym, ap, subst, ◌∙◌, arith, bit_and, bit_or, bit_xor, pos, ◌+ℤ◌, ◌-ℤ◌, ◌*ℤ◌, xor, int_div_euclid, length-take-le, length-replicate, Number, bits, signed, residue, fits_unsigned, fits_signed, arithmetic, divides, exactly, shl, lshr, ashr, or, instruction, on_numbers, on_poison, selection, CastFits, conversion, converted, breaks_flags, IsValueOf, Opcode, Add, Sub, Mul, UDiv, SDiv, URem, SRem, Shl, LShr, AShr, And, Or, Xor, UMin, UMax, SMin, SMax, Flags, Cast, Trunc, ZExt, SExt, Value, Poison, Bits, Effect, Undefined, Gives, KnownBit, Zero, One, Up, Down, known_not, known_and, known_or, known_xor, known_agreed, known_sum, moved, bit, number, number-take, number-extended, length-moved, moved_up_number, moved_down_number, Operand, read, AnyNumber, OperandGives, unknown, bit_by_bit, top_of, shifted, known_result, Allows, HasBits, ResultsHaveKnownBits}
 use Rattle.ir_core.specs.declared.instruction.Op.TheVariants as ops
 use Rattle.ir_core.specs.declared.operand.Operand.TheVariants as operands
 use Rattle.known_bits.proofs.Tables.{allows_and, allows_or, allows_xor}
@@ -130,22 +130,24 @@ by_operand N operands.Undef by v is numbers = has_nothing N v is
 by_operand N operands.Poison by v is numbers = has_nothing N v is
 
 -- ---- instructions with two operands
-module _ (known : ℕ → Operand → List KnownBit) (held : Registers) (N : ℕ) (flags : Flags) (x y : Operand) (at_x : GivesBits known held N x) (at_y : GivesBits known held N y) (xv yv v : Value) (gives_x : OperandGives AnyNumber held N x xv) (gives_y : OperandGives AnyNumber held N y yv) where
+-- What is known of both operands, their values, and what the instruction gives. A literal number gives itself. Whatever
+-- flags it has, those of its result may be others.
+module _ (known : ℕ → Operand → List KnownBit) (N : ℕ) (flags other : Flags) (x y : Operand) (width_x : length (known N x) ≡ N) (width_y : length (known N y) ≡ N) (xv yv v : Value)
+    (at_x : IsValueOf N xv × HasBits (known N x) xv) (at_y : IsValueOf N yv × HasBits (known N y) yv) (literal : (n : Number) → y ≡ operands.Number n → yv ≡ Bits n) where
   at_values : (r : List KnownBit) (op : Opcode) → ((z : Value) → on_poison op N z ≡ Gives Poison) → Gives v ≡ instruction op flags N xv yv
       → ((a b : Number) → IsWord (known N x) N (word_of a) a.number → IsWord (known N y) N (word_of b) b.number → EffectHas r (on_numbers op flags N a.number b.number))
       → HasBits r v
-  at_values r op poison e numbers = subst (EffectHas r) (sym e) (two_values (known N x) (known N y) r op flags N xv yv poison at_x.0 at_y.0 (at_x.1 xv gives_x) (at_y.1 yv gives_y) numbers)
+  at_values r op poison e numbers = subst (EffectHas r) (sym e) (two_values (known N x) (known N y) r op flags N xv yv poison width_x width_y at_x at_y numbers)
 
   by_shift : (op : Opcode) (by : ℕ → List KnownBit) → IsValueOf N v → ((z : Value) → on_poison op N z ≡ Gives Poison) → Gives v ≡ instruction op flags N xv yv
       → ((n a : Number) → IsWord (known N x) N (word_of a) a.number → EffectHas (by n.number) (on_numbers op flags N a.number n.number))
       → HasBits (shifted N y by) v
   by_shift op by is poison e numbers =
       by_operand N y by v is (λ n amount.
-      let yv_is : yv ≡ Bits n = subst (λ z. OperandGives AnyNumber held N z yv) amount gives_y in
-      let e' : Gives v ≡ instruction op flags N xv (Bits n) = e ∙ ap (instruction op flags N xv) yv_is in
-      subst (EffectHas (by n.number)) (sym e') (by_amount (known N x) (by n.number) op flags N xv n poison at_x.0 (at_x.1 xv gives_x) (numbers n)))
+      let e' : Gives v ≡ instruction op flags N xv (Bits n) = e ∙ ap (instruction op flags N xv) (literal n amount) in
+      subst (EffectHas (by n.number)) (sym e') (by_amount (known N x) (by n.number) op flags N xv n poison width_x at_x (numbers n)))
 
-  binary_has : (op : Opcode) → IsValueOf N v → Gives v ≡ instruction op flags N xv yv → HasBits (known_result known N (ops.Binary op flags x y)) v
+  pub binary_has : (op : Opcode) → IsValueOf N v → Gives v ≡ instruction op flags N xv yv → HasBits (known_result known N (ops.Binary op other x y)) v
   unfolding on_numbers on_poison arithmetic or shl lshr ashr
   binary_has And is e = at_values (bit_by_bit known_and (known N x) (known N y)) And (λ z. refl) e (λ a b wa wb. and_has (known N x) (known N y) N (word_of a) (word_of b) a.number b.number wa wb)
   binary_has Or is e =
@@ -187,17 +189,18 @@ module _ (known : ℕ → Operand → List KnownBit) (held : Registers) (N : ℕ
   binary_has SMax is e = has_nothing N v is
 
 -- ---- casts
-cast_has : (p : List KnownBit) (M N : ℕ) (cast : Cast) (flags : Flags) (known : ℕ → Operand → List KnownBit) (x : Operand) (v : Value) → known M x ≡ p → length p ≡ M → CastFits cast M N → IsValueOf M v × HasBits p v → HasBits (known_result known N (ops.Convert cast flags M x)) (conversion cast flags M N v)
+-- of such flags; those of the result may be others
+pub cast_has : (p : List KnownBit) (M N : ℕ) (cast : Cast) (flags other : Flags) (known : ℕ → Operand → List KnownBit) (x : Operand) (v : Value) → known M x ≡ p → length p ≡ M → CastFits cast M N → IsValueOf M v × HasBits p v → HasBits (known_result known N (ops.Convert cast other M x)) (conversion cast flags M N v)
 unfolding conversion converted
-cast_has p M N Trunc flags known x Poison p_is width fits h = tt
-cast_has p M N ZExt flags known x Poison p_is width fits h = tt
-cast_has p M N SExt flags known x Poison p_is width fits h = tt
-cast_has p M N Trunc flags known x (Bits a) p_is width fits h =
+cast_has p M N Trunc flags other known x Poison p_is width fits h = tt
+cast_has p M N ZExt flags other known x Poison p_is width fits h = tt
+cast_has p M N SExt flags other known x Poison p_is width fits h = tt
+cast_has p M N Trunc flags other known x (Bits a) p_is width fits h =
     rw p_is (or_poison (take N p) (breaks_flags Trunc flags M N a.number) (bits N (a.number % 2 ^ N)) (cut_has p M (word_of a) a.number (is_word p M a width h.0 h.1) N fits))
-cast_has p M N ZExt flags known x (Bits a) p_is width fits h =
+cast_has p M N ZExt flags other known x (Bits a) p_is width fits h =
     let same : a.number + bit false * (2 ^ N - 2 ^ M) ≡ a.number = omega arith in
     rw p_is (or_poison (p ++ replicate (N - M) Zero) (breaks_flags ZExt flags M N a.number) (bits N a.number) (longer p M (word_of a) a.number (is_word p M a width h.0 h.1) N Zero false a.number fits refl same))
-cast_has p M N SExt flags known x (Bits a) p_is width fits h =
+cast_has p M N SExt flags other known x (Bits a) p_is width fits h =
     let word = is_word p M a width h.0 h.1 in
     let top = highest (word_of a) in
     rw p_is (or_poison (p ++ replicate (N - M) (top_of p)) (breaks_flags SExt flags M N a.number) (bits N (residue N (signed M a.number)))
@@ -216,7 +219,7 @@ one_arm : (r : List KnownBit) (b : Bool) (x y : Value) → HasBits r x → HasBi
 one_arm r true x y h k = h
 one_arm r false x y h k = k
 
-choice_has : (p q : List KnownBit) (z x y : Value) → length q ≡ length p → HasBits p x → HasBits q y → HasBits (bit_by_bit known_agreed p q) (selection z x y)
+pub choice_has : (p q : List KnownBit) (z x y : Value) → length q ≡ length p → HasBits p x → HasBits q y → HasBits (bit_by_bit known_agreed p q) (selection z x y)
 unfolding selection
 choice_has p q Poison x y same h k = tt
 choice_has p q (Bits c) x y same h k = one_arm (bit_by_bit known_agreed p q) (c.number == 1) x y (first_arm p q x same h) (second_arm p q y same k)
@@ -224,7 +227,9 @@ choice_has p q (Bits c) x y same h k = one_arm (bit_by_bit known_agreed p q) (c.
 -- ---- all instructions
 pub results_have : ResultsHaveKnownBits
 results_have known f b k held N (ops.Binary op flags x y) v typed at h is =
-    binary_has known held N flags x y (at 0 (read b k N x) refl) (at 1 (read b k N y) refl) h.0 h.1 v h.2 h.3 op is h.4
+    let at_x = at 0 (read b k N x) refl in
+    let at_y = at 1 (read b k N y) refl in
+    binary_has known N flags flags x y at_x.0 at_y.0 h.0 h.1 v (at_x.1 h.0 h.2) (at_y.1 h.1 h.3) (λ n amount. subst (λ z. OperandGives AnyNumber held N z h.1) amount h.3) op is h.4
 results_have known f b k held N (ops.Select c x y) v typed at h is =
     let at_x = at 1 (read b k N x) refl in
     let at_y = at 2 (read b k N y) refl in
@@ -233,7 +238,7 @@ results_have known f b k held N (ops.Select c x y) v typed at h is =
 results_have known f b k held N (ops.Convert cast flags M x) v typed at h is =
     let at_x = at 0 (read b k M x) refl in
     subst (EffectHas (known_result known N (ops.Convert cast flags M x))) (sym h.2)
-    (cast_has (known M x) M N cast flags known x h.0 refl at_x.0 typed.1 (at_x.1 h.0 h.1))
+    (cast_has (known M x) M N cast flags flags known x h.0 refl at_x.0 typed.1 (at_x.1 h.0 h.1))
 results_have known f b k held N (ops.Compare pred samesign M x y) v typed at h is = has_nothing N v is
 results_have known f b k held N (ops.Unary op truth x) v typed at h is = has_nothing N v is
 results_have known f b k held N (ops.Freeze x) v typed at h is = has_nothing N v is

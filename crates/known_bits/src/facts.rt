@@ -1,8 +1,10 @@
 //! What is known of operands behind some instructions of a block.
 ghost use Rattle.std.specs.Prelude.{◌≡◌, ◌≤◌, All, IfOk, length};
 ghost use Rattle.known_bits.specs.KnownBits.{known_operand};
+ghost use Rattle.known_bits.specs.Words.{known_of};
 
 use crate::bits::{digits, unknown};
+use crate::words::Known;
 use circuits::{Bits, KnownBit};
 use ir_core::{Operand, Register};
 use lists::List;
@@ -56,6 +58,36 @@ impl Facts {
         match self.results.as_slice().get(place as usize) {
             Some(bits) => Ok(List::from_vec(Vec::from_slice(alloc, bits.as_slice())?)),
             None => unknown(alloc, width.bits() as usize),
+        }
+    }
+
+    /// What is known of the bits of an operand, in two numbers. Where nothing is known the width makes no difference to
+    /// these. It takes no memory.
+    pub fn known(&self, operand: Operand) -> Known
+        requires { All (λ bits. length bits ≤ 64) self.now.results }
+        ensures { result ≡ known_of (known_operand self.now.block self.now.results 0 operand) }
+    {
+        match operand {
+            Operand::Number(number) => Known::of_number(number),
+            Operand::Register(register) => self.known_register(register),
+            Operand::Undef | Operand::Poison => Known::nothing(),
+        }
+    }
+
+    /// The same of a register.
+    fn known_register(&self, register: Register) -> Known
+        requires { All (λ bits. length bits ≤ 64) self.now.results }
+        ensures { result ≡ known_of (known_operand self.now.block self.now.results 0 (Operand.Register register)) }
+    {
+        let Register::Result(block, place) = register else {
+            return Known::nothing();
+        };
+        if self.block != block {
+            return Known::nothing();
+        }
+        match self.results.as_slice().get(place as usize) {
+            Some(bits) => Known::of_bits(bits.as_slice()),
+            None => Known::nothing(),
         }
     }
 }

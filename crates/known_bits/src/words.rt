@@ -1,9 +1,12 @@
 //! What is known of bits, in two numbers.
-ghost use Rattle.std.specs.Prelude.{◌≡◌, ◌≤◌, length, map};
+ghost use Rattle.std.specs.Prelude.{◌≡◌, ◌≤◌, [], length, map};
+ghost use Rattle.ops.specs.Counts.{binary_digits};
+ghost use Rattle.circuits.specs.Kleene.{certain};
 ghost use Rattle.circuits.specs.Word.{bit, number};
 ghost use Rattle.known_bits.specs.Words.{is_known_as, known_of};
 
 use circuits::KnownBit;
+use ops::Word;
 
 /// What is known of the bits of a value. No bit is 1 in both numbers; of one that is 1 in neither nothing is known.
 #[derive(Clone, Copy, PartialEq, Eq, Debug)]
@@ -15,6 +18,24 @@ pub struct Known {
 }
 
 impl Known {
+    /// Of no bit anything.
+    pub(crate) fn nothing() -> Known
+        ensures { result ≡ known_of [] }
+    {
+        Known { zeros: 0, ones: 0 }
+    }
+
+    /// Of a number all bits.
+    pub(crate) fn of_number(number: Word) -> Known
+        ensures { result ≡ known_of (map certain (binary_digits number.width number.number)) }
+    {
+        let all = u64::MAX >> (64 - number.width().bits());
+        Known {
+            zeros: all - number.number(),
+            ones: number.number(),
+        }
+    }
+
     /// What is known of the bits of a word, the lowest first.
     pub(crate) fn of_bits(bits: &[KnownBit]) -> Known
         requires { length bits.now ≤ 64 }

@@ -18,7 +18,7 @@ pub use Rattle.ops.specs.declared.value.Effect.TheVariants.{Gives, Undefined}
 pub use Rattle.ops.specs.declared.value.Value.{Value}
 pub use Rattle.ops.specs.declared.value.Value.TheVariants.{Bits, Poison}
 pub use Rattle.rule_core.specs.Checks.{ChoicesInOrder, FlagsFitOp, IsBeforeRoot, IsRule, MayBeTerm, MayBeWitness, MayStandInSource, SourceMayRead, TargetMayRead, formula_weight, node_weight, term_weight}
-pub use Rattle.rule_core.specs.Facts.{SaysBits, fact_holds, facts_hold}
+pub use Rattle.rule_core.specs.Facts.{fact_holds, facts_hold}
 pub use Rattle.rule_core.specs.Laws.{RulesHaveOneOutcome}
 pub use Rattle.rule_core.specs.Positions.{IsOperandAmong, IsStatementOf, IsTermOf, LeavesOpen, Names, binary_left, binary_right, choices_among, choices_of, chooses, classes_of, classes_of_statement, classes_of_term, compared, condition, copy, freeze, frozen_in, left, name, one_operand, operand, operands_among, operands_in, operands_of, reads, reads_constant, right, select_false, select_true, sign_extended, source_assigns, target_assigns, term, term_choice, term_constant, term_register, terms_in, truncated, truth, undef_in, witness, zero_extended}
 pub use Rattle.rule_core.specs.Readiness.{ArgumentIsReady, ChoiceIsReady, GivenFits, HeldFits, NodeIsReady, OpIsReady, SourceRan, StatementIsReady, TargetRan, TermIsReady, TermsFit, ValuesFit, seen, shown}

@@ -12,12 +12,6 @@ use Rattle.rule_core.specs.declared.rule.Formula.TheVariants as formulas
 use Rattle.rule_core.specs.Run.{Held, Holds, value_of, TemporariesEnd}
 use Rattle.rule_core.specs.Terms.{number_or_zero, constant_values}
 
--- the node says something of a register's bits
-abbrev pub SaysBits : Formula → Type 0
-SaysBits (formulas.MaskedValueIsZero r a) = Unit {0}
-SaysBits (formulas.IsKnownNonZero r) = Unit {0}
-SaysBits formula = ⊥
-
 -- no bit is set that is set in the mask; poison has none
 abbrev pub has_no_bit_of : ℕ → Value → Bool
 has_no_bit_of mask Poison = true
