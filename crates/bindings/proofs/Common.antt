@@ -2,6 +2,7 @@
 pub use Rattle.std.proofs.Common.{Bool, Bor, Contains, IfNone, IfSome, IsTrue, List, None, Option, Some, [], ap, arith, below_more, false, flat_map, get_or, get_or-set_other, get_or-set_same, inl, inr, length, map, option_and_then, option_map, pos, refl, rules, slice_get, slice_set, subst, suc, sym, take, true, zero, ℕ, ◌&&◌, ◌++◌, ◌+◌, ◌-◌, ◌<◌, ◌↔◌, ◌∙◌, ◌∷◌, ◌≡◌, ◌≢◌, ◌≤◌, ◌⊎◌}
 pub use Rattle.bindings.specs.Checks.{IsMet, IsRootOperation, MatchesAt}
 pub use Rattle.bindings.specs.Facts.{AreFactsOf}
+pub use Rattle.bindings.specs.Known.{AsksBitsOf, FactFollows, Knowledge, SaysOf, known_by, known_in, number_of_term, operand_for}
 pub use Rattle.bindings.specs.Laws.{ReadsStandBefore, TemporariesStandBefore}
 pub use Rattle.bindings.specs.Match.{IsMatch, MatchesInAnyOrder, MatchesWhere}
 pub use Rattle.bindings.specs.Nodes.{Has, HasExactly, HasOperandOf, IsTemporaryWidth, NamesAmong, OneNamesAmong}
@@ -22,9 +23,11 @@ pub use Rattle.ir_core.specs.declared.function.Block.{Block}
 pub use Rattle.ir_core.specs.declared.function.Function.{Function}
 pub use Rattle.ir_core.specs.declared.instruction.Inst.{Inst}
 pub use Rattle.ir_core.specs.declared.instruction.Op.{Op}
+pub use Rattle.ir_core.specs.declared.operand.Operand.{Operand}
 pub use Rattle.ir_core.specs.declared.operand.Register.{Register}
 pub use Rattle.ir_meaning.proofs.Pieces.{contains_at, place_in, some_at}
 pub use Rattle.ir_meaning.specs.Assignments.{NotBothAreAssigned}
+pub use Rattle.known_bits.specs.declared.words.Known.{Known}
 pub use Rattle.needed.proofs.Reading.{own_place}
 pub use Rattle.ops.proofs.FlagSets.{both, flags_equal}
 pub use Rattle.ops.specs.Number.{Number}
@@ -32,8 +35,7 @@ pub use Rattle.ops.specs.Value.{IsValueOf}
 pub use Rattle.ops.specs.declared.value.Value.TheVariants.{Bits}
 pub use Rattle.rule_core.proofs.Members.{Contains-flat_map, Contains-from_get, flat_map-from, operand_stands, source_statement}
 pub use Rattle.rule_core.proofs.Weights.{few_terms}
-pub use Rattle.rule_core.specs.Checks.{IsRule, MayBeTerm, SourceMayRead}
-pub use Rattle.rule_core.specs.Facts.{SaysBits}
+pub use Rattle.rule_core.specs.Checks.{IsBeforeRoot, IsRule, MayBeFormula, MayBeTerm, SourceMayRead}
 pub use Rattle.rule_core.specs.Positions.{name, operands_among, operands_in, operands_of, reads_constant}
 pub use Rattle.rule_core.specs.TermNodes.{IsOperandOf, StandsIn, itself, operand}
 pub use Rattle.rule_core.specs.Typing.{IsTyping}
@@ -41,6 +43,7 @@ pub use Rattle.rule_core.specs.Valid.{ConstantsFit}
 pub use Rattle.rule_core.specs.declared.rule.Argument.{Argument}
 pub use Rattle.rule_core.specs.declared.rule.Formula.{Formula}
 pub use Rattle.rule_core.specs.declared.rule.Node.{Node}
+pub use Rattle.rule_core.specs.declared.rule.Register.{Register as Name}
 pub use Rattle.rule_core.specs.declared.rule.Rule.{Rule}
 pub use Rattle.rule_core.specs.declared.rule.Statement.{Statement}
 pub use Rattle.rule_core.specs.declared.rule.Term.{Term}

@@ -7,6 +7,7 @@ pub mod NamedTemporaries
 pub mod Bound
 pub mod Fitting
 pub mod Uses
+pub mod Knowing
 pub mod Roots
 pub mod Before
 pub mod TemporariesBefore

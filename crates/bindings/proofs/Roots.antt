@@ -1,9 +1,9 @@
 -- The root of a rule and the instruction at which it matches are the same operation.
-use Rattle.bindings.proofs.Common.{◌≡◌, ◌↔◌, ◌∙◌, ℕ, suc, ◌-◌, length, Bool, false, IsTrue, Some, sym, subst, arith, slice_get, same_Some, HasInst, IsInst, Function, Inst, IsRule, Rule, Statement, IsRootOperation, IsMatch, MatchesInAnyOrder, MatchesWhere, IsSameOperation, Binding}
+use Rattle.bindings.proofs.Common.{◌≡◌, ◌↔◌, ◌∙◌, ℕ, suc, ◌-◌, length, Bool, false, IsTrue, Some, sym, subst, arith, slice_get, same_Some, HasInst, IsInst, Function, Inst, IsRule, Rule, Statement, IsRootOperation, IsMatch, Knowledge, MatchesInAnyOrder, MatchesWhere, known_in, IsSameOperation, Binding}
 use Rattle.bindings.proofs.Bound.{statement_at}
 use Rattle.bindings.proofs.Reading.{has_inst_at, same_inst}
 
-pub matched_operation : {Before : ℕ → ℕ → Type 0} (f : Function) (b k : ℕ) (rule : Rule) (m : Binding) → IsRule rule → MatchesWhere Before f b k rule m → IsRootOperation f b k rule
+pub matched_operation : {Before : ℕ → ℕ → Type 0} {known : Knowledge} (f : Function) (b k : ℕ) (rule : Rule) (m : Binding) → IsRule rule → MatchesWhere Before known f b k rule m → IsRootOperation f b k rule
 matched_operation f b k rule m is_rule is =
     let some = is_rule.source_root in
     let (s, at) = statement_at rule (length rule.source - 1) (omega arith) in
@@ -31,17 +31,17 @@ pub no_root_operation : (f : Function) (b k : ℕ) (rule : Rule) → ¬ HasInst 
 no_root_operation f b k rule none = (λ h. absurd cc, λ root. absurd (none (has_inst_at f b k root.inst root.is_inst)))
 
 -- a match is at the instruction that its binding names
-pub match_there : {Before : ℕ → ℕ → Type 0} (f : Function) (b k : ℕ) (rule : Rule) (m n : Binding) → MatchesWhere Before f b k rule m → n ≡ m → MatchesWhere Before f n.block n.place rule n
-match_there {Before = Before} f b k rule m n is same =
-    subst (λ (x : Binding). MatchesWhere Before f x.block x.place rule x) (sym same)
-    (subst (λ (d : ℕ). MatchesWhere Before f d m.place rule m) (sym is.block) (subst (λ (p : ℕ). MatchesWhere Before f b p rule m) (sym is.place) is))
+pub match_there : {Before : ℕ → ℕ → Type 0} {known : Knowledge} (f : Function) (b k : ℕ) (rule : Rule) (m n : Binding) → MatchesWhere Before known f b k rule m → n ≡ m → MatchesWhere Before known f n.block n.place rule n
+match_there {Before = Before} {known = known} f b k rule m n is same =
+    subst (λ (x : Binding). MatchesWhere Before known f x.block x.place rule x) (sym same)
+    (subst (λ (d : ℕ). MatchesWhere Before known f d m.place rule m) (sym is.block) (subst (λ (p : ℕ). MatchesWhere Before known f b p rule m) (sym is.place) is))
 
-pub match_here : {Before : ℕ → ℕ → Type 0} (f : Function) (b k : ℕ) (rule : Rule) (m : Binding) → (m.block ≡ b) × (m.place ≡ k) → MatchesWhere Before f m.block m.place rule m → MatchesWhere Before f b k rule m
-match_here {Before = Before} f b k rule m there is =
-    subst (λ (p : ℕ). MatchesWhere Before f b p rule m) there.1 (subst (λ (d : ℕ). MatchesWhere Before f d m.place rule m) there.0 is)
+pub match_here : {Before : ℕ → ℕ → Type 0} {known : Knowledge} (f : Function) (b k : ℕ) (rule : Rule) (m : Binding) → (m.block ≡ b) × (m.place ≡ k) → MatchesWhere Before known f m.block m.place rule m → MatchesWhere Before known f b k rule m
+match_here {Before = Before} {known = known} f b k rule m there is =
+    subst (λ (p : ℕ). MatchesWhere Before known f b p rule m) there.1 (subst (λ (d : ℕ). MatchesWhere Before known f d m.place rule m) there.0 is)
 
 -- a match in order is one without regard to the order
-pub in_any_order : (f : Function) (b k : ℕ) (rule : Rule) (m : Binding) → IsMatch f b k rule m → MatchesInAnyOrder f b k rule m
+pub in_any_order : (f : Function) (b k : ℕ) (rule : Rule) (m : Binding) → IsMatch f b k rule m → MatchesInAnyOrder (known_in f) f b k rule m
 in_any_order f b k rule m is = record {
   block = is.block;
   place = is.place;
@@ -55,5 +55,5 @@ in_any_order f b k rule m is = record {
   typing = is.typing;
   precondition = is.precondition;
   one_use = is.one_use;
-  no_facts = is.no_facts;
+  facts = is.facts;
 }

@@ -1,5 +1,5 @@
 -- Temporaries stand before the root, since it reads from each through a chain of operands.
-use Rattle.bindings.proofs.Common.{◌≡◌, inl, inr, ℕ, zero, suc, ◌+◌, ◌<◌, ◌≤◌, List, length, Some, refl, sym, ap, subst, ◌∙◌, arith, Contains, flat_map, slice_get, cases_lt, same_Some, slice_get_within, IsPhi, MeetsChecks, IsReached, Read, IsRead, reads_of, Function, Op, contains_at, place_in, some_at, IsRule, SourceMayRead, operands_of, Argument, Rule, Statement, flat_map-from, IsMatch, MatchesInAnyOrder, StandsFor, IsSameOperation, StatementMatches, Binding, ReadsStandBefore, TemporariesStandBefore}
+use Rattle.bindings.proofs.Common.{◌≡◌, inl, inr, ℕ, zero, suc, ◌+◌, ◌<◌, ◌≤◌, List, length, Some, refl, sym, ap, subst, ◌∙◌, arith, Contains, flat_map, slice_get, cases_lt, same_Some, slice_get_within, IsPhi, MeetsChecks, IsReached, Read, IsRead, reads_of, Function, Op, contains_at, place_in, some_at, IsRule, SourceMayRead, operands_of, Argument, Rule, Statement, flat_map-from, IsMatch, MatchesInAnyOrder, known_in, StandsFor, IsSameOperation, StatementMatches, Binding, ReadsStandBefore, TemporariesStandBefore}
 use Rattle.ir_core.specs.declared.instruction.Op.TheVariants as ops
 use Rattle.ir_core.specs.declared.operand.Operand.TheVariants as operands
 use Rattle.ir_core.specs.declared.operand.Register.TheVariants as registers
@@ -20,7 +20,7 @@ count_same f b k w (rule_ops.Convert cast flags a to) (ops.Convert cast' flags' 
 count_same f b k w (rule_ops.Freeze a j) (ops.Freeze x) same = refl
 count_same f b k w s i same = absurd same
 
-no_phi : (s : RuleOp) (i : Op) → IsSameOperation s i → ¬ IsPhi i
+pub no_phi : (s : RuleOp) (i : Op) → IsSameOperation s i → ¬ IsPhi i
 no_phi (rule_ops.Binary opcode flags a d) (ops.Binary opcode' flags' x y) same = λ phi. phi
 no_phi (rule_ops.Compare pred samesign a d) (ops.Compare pred' samesign' width x y) same = λ phi. phi
 no_phi (rule_ops.Unary op truth a) (ops.Unary op' truth' x) same = λ phi. phi
@@ -29,7 +29,7 @@ no_phi (rule_ops.Convert cast flags a to) (ops.Convert cast' flags' from x) same
 no_phi (rule_ops.Freeze a j) (ops.Freeze x) same = λ phi. phi
 no_phi s i same = absurd same
 
-module _ (stands_before : ReadsStandBefore) (f : Function) (b k : ℕ) (rule : Rule) (m : Binding) (checks : MeetsChecks f) (good : IsRule rule) (is : MatchesInAnyOrder f b k rule m) where
+module _ (stands_before : ReadsStandBefore) (f : Function) (b k : ℕ) (rule : Rule) (m : Binding) (checks : MeetsChecks f) (good : IsRule rule) (is : MatchesInAnyOrder (known_in f) f b k rule m) where
   -- where a statement reads the result of another, that one's instruction stands before its own
   reads_before : (j i p : ℕ) (s : Statement) (o : RuleOperand) → slice_get m.statements j ≡ Some (registers.Result m.block p)
       → slice_get rule.source i ≡ Some s → (h : StatementMatches f rule m i s) → Contains (operands_of s.op) o → o.value ≡ arguments.Register (names.Source j) → p < h.place
@@ -76,7 +76,7 @@ module _ (stands_before : ReadsStandBefore) (f : Function) (b k : ℕ) (rule : R
     typing = is.typing;
     precondition = is.precondition;
     one_use = is.one_use;
-    no_facts = is.no_facts;
+    facts = is.facts;
   }
 
 pub temporaries_before : ReadsStandBefore → TemporariesStandBefore

@@ -10,6 +10,7 @@ use Rattle.ir_core.specs.declared.operand.Register.{Register}
 use Rattle.ir_core.specs.declared.operand.Register.TheVariants as registers
 use Rattle.rule_core.specs.Checks.{IsRule}
 use Rattle.rule_core.specs.declared.rule.Rule.{Rule}
+use Rattle.bindings.specs.Known.{known_in}
 use Rattle.bindings.specs.Match.{IsMatch, MatchesInAnyOrder}
 use Rattle.bindings.specs.declared.binding.Binding.{Binding}
 
@@ -23,4 +24,4 @@ ReadsStandBefore = (f : Function) (b k p i : ℕ) (inst : Inst) (r : Read)
 -- So a rule matches in a function that meets its checks where it matches without regard to the order of instructions.
 abbrev pub TemporariesStandBefore : Type 0
 TemporariesStandBefore = (f : Function) (b k : ℕ) (rule : Rule) (m : Binding)
-    → MeetsChecks f → IsRule rule → MatchesInAnyOrder f b k rule m → IsMatch f b k rule m
+    → MeetsChecks f → IsRule rule → MatchesInAnyOrder (known_in f) f b k rule m → IsMatch f b k rule m

@@ -4,6 +4,7 @@ pub mod Operands
 pub mod Promises
 pub mod Statements
 pub mod Nodes
+pub mod Known
 pub mod Match
 pub mod Facts
 pub mod Checks

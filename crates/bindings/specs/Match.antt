@@ -5,7 +5,6 @@ use Rattle.ir_core.specs.declared.function.Function.{Function}
 use Rattle.ir_core.specs.declared.operand.Operand.TheVariants as operands
 use Rattle.ir_core.specs.declared.operand.Register.{Register}
 use Rattle.ir_core.specs.declared.operand.Register.TheVariants as registers
-use Rattle.rule_core.specs.Facts.{SaysBits}
 use Rattle.rule_core.specs.Terms.{PreconditionHolds}
 use Rattle.rule_core.specs.Typing.{IsTyping}
 use Rattle.rule_core.specs.declared.rule.Formula.{Formula}
@@ -13,12 +12,13 @@ use Rattle.rule_core.specs.declared.rule.Formula.TheVariants as formulas
 use Rattle.rule_core.specs.declared.rule.Rule.{Rule}
 use Rattle.rule_core.specs.declared.rule.Statement.{Statement}
 use Rattle.use_counts.specs.Uses.{IsUsedOnce}
+use Rattle.bindings.specs.Known.{Knowledge, FactFollows, known_in}
 use Rattle.bindings.specs.Statements.{StatementMatches}
 use Rattle.bindings.specs.declared.binding.Binding.{Binding}
 
 -- The rule matches at instruction k of block b of the function, with this binding. `Before` relates the index of each
--- temporary's instruction to the root's.
-pub record MatchesWhere (Before : ℕ → ℕ → Type 0) (f : Function) (b k : ℕ) (rule : Rule) (binding : Binding) : Type 0 where
+-- temporary's instruction to the root's, and `known` is what is known of bits.
+pub record MatchesWhere (Before : ℕ → ℕ → Type 0) (known : Knowledge) (f : Function) (b k : ℕ) (rule : Rule) (binding : Binding) : Type 0 where
   -- the root is instruction k of block b, which the entry reaches
   pub block : binding.block ≡ b
   pub place : binding.place ≡ k
@@ -37,14 +37,16 @@ pub record MatchesWhere (Before : ℕ → ℕ → Type 0) (f : Function) (b k : 
   pub precondition : PreconditionHolds rule binding.typing binding.constants
   -- each register of which one use is asked is named by exactly one operand of the function
   pub one_use : (j : ℕ) (r : Register) → Contains rule.precondition (formulas.HasOneUse j) → slice_get binding.statements j ≡ Some r → IsUsedOnce f r
-  -- nothing is known of bits, so no precondition that says something of them is met
-  pub no_facts : (formula : Formula) → Contains rule.precondition formula → ¬ SaysBits formula
+  -- what the precondition says of bits follows from what is known of them at the root
+  pub facts : (formula : Formula) → Contains rule.precondition formula → FactFollows (known b k) rule binding formula
 
--- where temporaries stand before the root: the instructions of a block are in the order of their index
+-- where temporaries stand before the root, and what is known there is known by the instructions before it: those of a
+-- block are in the order of their index
 abbrev pub IsMatch : Function → ℕ → ℕ → Rule → Binding → Type 0
-IsMatch = MatchesWhere (λ p k. p < k)
+IsMatch f = MatchesWhere (λ p k. p < k) (known_in f) f
 
--- And where their order isn't asked for, as an index in a draft's arena doesn't tell it. In a function that meets its
--- checks temporaries stand before the root all the same, since it reads from each through a chain of operands.
-abbrev pub MatchesInAnyOrder : Function → ℕ → ℕ → Rule → Binding → Type 0
+-- And where their order isn't asked for, as an index in a draft's arena doesn't tell it, and what is known is given. In
+-- a function that meets its checks temporaries stand before the root all the same, since it reads from each through a
+-- chain of operands.
+abbrev pub MatchesInAnyOrder : Knowledge → Function → ℕ → ℕ → Rule → Binding → Type 0
 MatchesInAnyOrder = MatchesWhere (λ p k. Unit {0})

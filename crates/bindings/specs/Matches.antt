@@ -3,21 +3,22 @@ use Rattle.std.specs.Prelude.{◌≡◌, ℕ, ◌<◌, List, Some, All, AllPairs
 use Rattle.ir_core.specs.Assigned.{IsBefore}
 use Rattle.ir_core.specs.declared.function.Function.{Function}
 use Rattle.rule_core.specs.declared.rule.Rule.{Rule}
+use Rattle.bindings.specs.Known.{Knowledge, known_in}
 use Rattle.bindings.specs.Match.{MatchesWhere}
 use Rattle.bindings.specs.declared.rule_match.Match.{Match}
 
 -- the rule that the match names matches in the function, at the instruction and with the names that its binding has;
--- `Before` relates temporaries to the root
-pub record MatchesAmong (Before : ℕ → ℕ → Type 0) (rules : List Rule) (f : Function) (m : Match) : Type 0 where
+-- `Before` relates temporaries to the root, and `known` is what is known of bits
+pub record MatchesAmong (Before : ℕ → ℕ → Type 0) (known : Knowledge) (rules : List Rule) (f : Function) (m : Match) : Type 0 where
   pub rule : Rule
   pub is_rule : slice_get rules m.rule ≡ Some rule
-  pub matches : MatchesWhere Before f m.binding.block m.binding.place rule m.binding
+  pub matches : MatchesWhere Before known f m.binding.block m.binding.place rule m.binding
 
 -- where temporaries stand before the root, and where their order isn't asked for
 abbrev pub IsMatchAmong : List Rule → Function → Match → Type 0
-IsMatchAmong = MatchesAmong (λ p k. p < k)
+IsMatchAmong rules f = MatchesAmong (λ p k. p < k) (known_in f) rules f
 
-abbrev pub IsMatchInAnyOrder : List Rule → Function → Match → Type 0
+abbrev pub IsMatchInAnyOrder : Knowledge → List Rule → Function → Match → Type 0
 IsMatchInAnyOrder = MatchesAmong (λ p k. Unit {0})
 
 -- the first comes before the second: in order of blocks, in a block of instructions, and at an instruction of rules
@@ -31,15 +32,15 @@ pub record AreMatches (rules : List Rule) (f : Function) (matches : List Match) 
   pub in_order : AllPairs ComesBefore matches
 
 -- these are all matches with a property, in order
-pub record AreMatchesAmong (Before : ℕ → ℕ → Type 0) (rules : List Rule) (f : Function) (P : Match → Type 0) (matches : List Match) : Type 0 where
-  pub each : All (λ m. MatchesAmong Before rules f m × P m) matches
-  pub all : (m : Match) → MatchesAmong Before rules f m → P m → Contains matches m
+pub record AreMatchesAmong (Before : ℕ → ℕ → Type 0) (known : Knowledge) (rules : List Rule) (f : Function) (P : Match → Type 0) (matches : List Match) : Type 0 where
+  pub each : All (λ m. MatchesAmong Before known rules f m × P m) matches
+  pub all : (m : Match) → MatchesAmong Before known rules f m → P m → Contains matches m
   pub in_order : AllPairs ComesBefore matches
 
 abbrev pub AreMatchesWhere : List Rule → Function → (Match → Type 0) → List Match → Type 0
-AreMatchesWhere = AreMatchesAmong (λ p k. p < k)
+AreMatchesWhere rules f = AreMatchesAmong (λ p k. p < k) (known_in f) rules f
 
-abbrev pub AreMatchesInAnyOrder : List Rule → Function → (Match → Type 0) → List Match → Type 0
+abbrev pub AreMatchesInAnyOrder : Knowledge → List Rule → Function → (Match → Type 0) → List Match → Type 0
 AreMatchesInAnyOrder = AreMatchesAmong (λ p k. Unit {0})
 
 -- these are all that come before this one, in order

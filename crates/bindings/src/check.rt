@@ -1,7 +1,9 @@
 //! Whether a binding is a match.
 
-ghost use Rattle.std.specs.Prelude.{◌≡◌, ◌<◌, ◌^◌, ◌↔◌, ℕ, suc, length, All, Contains, IsTrue, Some, slice_get};
-ghost use Rattle.rule_core.specs.Checks.{IsRule};
+ghost use Rattle.std.specs.Prelude.{◌≡◌, ◌<◌, ◌≤◌, ◌^◌, ◌↔◌, ℕ, suc, length, All, Contains, IsTrue, Some, slice_get};
+ghost use Rattle.rule_core.specs.Checks.{IsRule, MayBeFormula};
+ghost use Rattle.rule_core.specs.Typing.{IsTyping};
+ghost use Rattle.rule_core.specs.Valid.{ConstantsFit};
 ghost use Rattle.rule_core.specs.declared.rule.Formula.{Formula as Asked};
 ghost use Rattle.rule_core.specs.declared.rule.Statement.{Statement as SourceStatement};
 ghost use Rattle.rule_typing.specs.Classes.{IsClassified};
@@ -9,6 +11,7 @@ ghost use Rattle.bindings.specs.Checks.{IsMet, MatchesAt};
 ghost use Rattle.bindings.specs.Facts.{AreFactsOf};
 ghost use Rattle.ir_core.specs.declared.operand.Register.{Register};
 ghost use Rattle.use_counts.specs.Tables.{count_of};
+ghost use Rattle.bindings.specs.Known.{known_by};
 ghost use Rattle.bindings.specs.Match.{MatchesInAnyOrder};
 ghost use Rattle.bindings.specs.Promises.{AreKept};
 ghost use Rattle.bindings.specs.Statements.{InstMatches, StatementMatches, TargetNamesTemporary, promises_of_inst, promises_of_statement};
@@ -16,6 +19,7 @@ ghost use Rattle.bindings.specs.Statements.{InstMatches, StatementMatches, Targe
 use crate::binding::Binding;
 use crate::facts::FunctionFacts;
 use crate::inst::inst_at;
+use crate::known::{has_no_bit_of, is_known_non_zero};
 use crate::operation::{
     MOST_OPERANDS, is_same_operation, operand_of, promises_of_inst, promises_of_statement,
 };
@@ -23,19 +27,28 @@ use crate::promises::Promises;
 use crate::standing::{has_width, operand_matches};
 use crate::temporaries::target_names_temporary;
 use ir_core::{Function, Inst, Op as InstOp, Operand, Register, read_at};
+use known_bits::Facts;
 use precond::holds;
 use rule_core::{Formula, Op, Rule};
 use rule_typing::is_typing;
 use use_counts::uses_of;
 
-/// Whether the rule matches with this binding at the instruction that the binding names. The order of the instructions
-/// in the block is not asked for, as their index in a draft's arena doesn't tell it.
-pub fn is_match(f: &Function, facts: &FunctionFacts, rule: &Rule, binding: &Binding) -> bool
+/// Whether the rule matches with this binding at the instruction that the binding names, where this is known of the
+/// results of its block. The order of the instructions in the block is not asked for, as their index in a draft's arena
+/// doesn't tell it.
+pub fn is_match(
+    f: &Function,
+    facts: &FunctionFacts,
+    known: &Facts,
+    rule: &Rule,
+    binding: &Binding,
+) -> bool
     requires insts { All (λ b. length b.insts < 2 ^ 32) f.now.blocks }
     requires facts { AreFactsOf f.now facts.now }
+    requires few { All (λ bits. length bits ≤ 64) known.now.results }
     requires rule { IsRule rule.now }
     requires classes { IsClassified rule.now }
-    ensures { IsTrue result ↔ MatchesInAnyOrder f.now binding.now.block binding.now.place rule.now binding.now }
+    ensures { IsTrue result ↔ MatchesInAnyOrder (known_by known.now) f.now binding.now.block binding.now.place rule.now binding.now }
 {
     if !facts.flow.reached(binding.block) || !has_sizes(rule, binding) {
         return false;
@@ -46,7 +59,7 @@ pub fn is_match(f: &Function, facts: &FunctionFacts, rule: &Rule, binding: &Bind
     if !is_typing(rule, &binding.typing) || !holds(rule, &binding.typing, &binding.constants) {
         return false;
     }
-    are_met(facts, binding, rule.precondition.as_slice())
+    are_met(facts, known, rule, binding)
 }
 
 /// Whether the binding has an entry for each statement, each input and each constant of the rule.
@@ -200,25 +213,45 @@ fn has_undef(operands: &[Operand]) -> bool
     operands.contains(&Operand::Undef)
 }
 
-/// Whether what these formulas ask of the function is met.
-fn are_met(facts: &FunctionFacts, binding: &Binding, formulas: &[Formula]) -> bool
-    ensures { IsTrue result ↔ ((formula : Asked) → Contains formulas.now formula → IsMet facts.now binding.now formula) }
+/// Whether what the nodes of the precondition ask of the function is met.
+fn are_met(facts: &FunctionFacts, known: &Facts, rule: &Rule, binding: &Binding) -> bool
+    requires few { All (λ bits. length bits ≤ 64) known.now.results }
+    requires rule { IsRule rule.now }
+    requires typing { IsTyping rule.now binding.now.typing }
+    requires constants { ConstantsFit rule.now binding.now.typing binding.now.constants }
+    ensures { IsTrue result ↔ ((formula : Asked) → Contains rule.now.precondition formula
+        → IsMet facts.now (known_by known.now binding.now.block binding.now.place) rule.now binding.now formula) }
 {
-    for formula in formulas {
-        if !is_met(facts, binding, *formula) {
+    for formula in rule.precondition.as_slice() {
+        if !is_met(facts, known, rule, binding, *formula) {
             return false;
         }
     }
     true
 }
 
-/// Whether the register that a formula asks one use of, if it does, has one. Of bits nothing is known.
-fn is_met(facts: &FunctionFacts, binding: &Binding, formula: Formula) -> bool
-    ensures { IsTrue result ↔ IsMet facts.now binding.now formula }
+/// Whether the register that a node asks one use of, if it does, has one, and what it says of bits, if it does, is known
+/// of them.
+fn is_met(
+    facts: &FunctionFacts,
+    known: &Facts,
+    rule: &Rule,
+    binding: &Binding,
+    formula: Formula,
+) -> bool
+    requires few { All (λ bits. length bits ≤ 64) known.now.results }
+    requires rule { IsRule rule.now }
+    requires typing { IsTyping rule.now binding.now.typing }
+    requires constants { ConstantsFit rule.now binding.now.typing binding.now.constants }
+    requires formula { (n : ℕ) × MayBeFormula rule.now n formula }
+    ensures { IsTrue result ↔ IsMet facts.now (known_by known.now binding.now.block binding.now.place) rule.now binding.now formula }
 {
     match formula {
         Formula::HasOneUse(j) => has_one_use(facts, binding, j),
-        Formula::MaskedValueIsZero(_, _) | Formula::IsKnownNonZero(_) => false,
+        Formula::MaskedValueIsZero(register, mask) => {
+            has_no_bit_of(known, rule, binding, register, mask)
+        }
+        Formula::IsKnownNonZero(register) => is_known_non_zero(known, rule, binding, register),
         Formula::Compare(_, _, _) | Formula::IsPowerOfTwo(_) | Formula::IsSignBit(_) => true,
         Formula::Not(_) | Formula::And(_, _) | Formula::Or(_, _) => true,
     }

@@ -3,14 +3,16 @@
 //! The definitions are in `specs/`: `Match` says when a rule matches at an instruction with a binding, `Statements`
 //! which instructions its statements match, and `Operands` what its operands stand for; `Uses` of `use_counts` says how
 //! often a register is used. `Matches` says which matches the rules of a file have in a function, and in which order;
-//! `Ready` what a rule that was read from a file meets; `Laws` that temporaries stand before the root. `Facts`,
-//! `Checks` and `Nodes` serve the code.
+//! `Ready` what a rule that was read from a file meets; `Known` what follows from what is known of bits; `Laws` that
+//! temporaries stand before the root. `Facts`, `Checks` and `Nodes` serve the code.
 #![tactic(auto)]
 
+mod asking;
 mod binding;
 mod check;
 mod facts;
 mod inst;
+mod known;
 mod laws;
 mod nodes;
 mod operation;
@@ -20,6 +22,7 @@ mod rule_match;
 mod standing;
 mod temporaries;
 
+pub use asking::{ask_bits, asks_bits};
 pub use binding::Binding;
 pub use check::is_match;
 pub use facts::FunctionFacts;

@@ -1,5 +1,5 @@
 -- What is read off from the root of a match down.
-use Rattle.matcher.proofs.Common.{◌≡◌, inl, inr, ℕ, ◌+◌, ◌<◌, ◌≤◌, List, length, Option, Some, Ok, Err, sym, ap, subst, ◌∙◌, arith, slice_get, IfOk, Result, cases_eq, slice_get_cases, slice_get_within, get_or_from_slice_get, same_Some, width_of, Function, IsRule, SourceMayRead, operands_of, Argument, Rule, Statement, Contains-from_get, HasClasses, IsNamedInSource, HasNoFault, MatchesInAnyOrder, AreSlotsOf, IsFilledAs, Keeps, Knows, KnowsFrom, KnowsName, KnowsOperand, KnowsStatement, OperandsMatch, Binding, Slots, statement_at, SourceOperand, source_operand, met_at, place_of, all_filled, width_of_inst}
+use Rattle.matcher.proofs.Common.{◌≡◌, inl, inr, ℕ, ◌+◌, ◌<◌, ◌≤◌, List, length, Option, Some, Ok, Err, sym, ap, subst, ◌∙◌, arith, slice_get, IfOk, Result, cases_eq, slice_get_cases, slice_get_within, get_or_from_slice_get, same_Some, width_of, Function, IsRule, SourceMayRead, operands_of, Argument, Rule, Statement, Contains-from_get, HasClasses, IsNamedInSource, HasNoFault, Knowledge, MatchesInAnyOrder, AreSlotsOf, IsFilledAs, Keeps, Knows, KnowsFrom, KnowsName, KnowsOperand, KnowsStatement, OperandsMatch, Binding, Slots, statement_at, SourceOperand, source_operand, met_at, place_of, all_filled, width_of_inst}
 use Rattle.ir_core.specs.declared.operand.Register.TheVariants as registers
 use Rattle.rule_core.specs.declared.rule.Argument.TheVariants as arguments
 use Rattle.rule_core.specs.declared.rule.Operand.{Operand}
@@ -8,7 +8,7 @@ use Rattle.matcher.proofs.Knowing.{keeps_statement}
 use Rattle.matcher.proofs.Widths.{as_many, stable}
 
 -- the root is bound to the instruction at which the match is
-pub root_bound : (f : Function) (b p : ℕ) (rule : Rule) (m : Binding) → MatchesInAnyOrder f b p rule m → (k : ℕ) → k + 1 ≡ length rule.source → slice_get m.statements k ≡ Some (registers.Result b p)
+pub root_bound : {known : Knowledge} (f : Function) (b p : ℕ) (rule : Rule) (m : Binding) → MatchesInAnyOrder known f b p rule m → (k : ℕ) → k + 1 ≡ length rule.source → slice_get m.statements k ≡ Some (registers.Result b p)
 root_bound f b p rule m is k last =
     let (s, at) = statement_at rule k (omega arith) in
     let bound = is.statements k s at in
@@ -48,7 +48,7 @@ pub record Takes (f : Function) (slots : Slots) (m : Binding) (j : ℕ) (s : Sta
   pub typing : slice_get m.typing s.class ≡ Some N
   pub operands : OperandsMatch f m b p s.op
 
-pub takes : (f : Function) (b p : ℕ) (rule : Rule) (slots : Slots) (m : Binding) (j : ℕ) (s : Statement) → IsRule rule → MatchesInAnyOrder f b p rule m → slice_get rule.source j ≡ Some s → KnowsFrom rule (j + 1) slots m → Takes f slots m j s
+pub takes : {known : Knowledge} (f : Function) (b p : ℕ) (rule : Rule) (slots : Slots) (m : Binding) (j : ℕ) (s : Statement) → IsRule rule → MatchesInAnyOrder known f b p rule m → slice_get rule.source j ≡ Some s → KnowsFrom rule (j + 1) slots m → Takes f slots m j s
 takes f b p rule slots m j s is_rule is at knows =
     let bound = is.statements j s at in
     record {
@@ -109,7 +109,7 @@ later : (rule : Rule) (k : ℕ) (slots : Slots) (m : Binding) → KnowsFrom rule
 later rule k slots m knows = record { root = knows.root; fixed = knows.fixed; statements = λ i s late at. knows.statements i s (omega arith) at }
 
 -- in the end all slots are filled, with what the match has
-pub filled_as : (f : Function) (b p : ℕ) (rule : Rule) (slots : Slots) (m : Binding) → IsRule rule → HasNoFault rule → MatchesInAnyOrder f b p rule m → AreSlotsOf rule slots → KnowsFrom rule 0 slots m → IsFilledAs slots m
+pub filled_as : {known : Knowledge} (f : Function) (b p : ℕ) (rule : Rule) (slots : Slots) (m : Binding) → IsRule rule → HasNoFault rule → MatchesInAnyOrder known f b p rule m → AreSlotsOf rule slots → KnowsFrom rule 0 slots m → IsFilledAs slots m
 filled_as f b p rule slots m is_rule no_fault is are knows =
     let widths : length slots.widths.items ≡ length m.typing = as_many rule m.typing (length slots.widths.items) is.typing are.widths in
     record {

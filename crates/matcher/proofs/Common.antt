@@ -2,11 +2,13 @@
 pub use Rattle.std.proofs.Common.{All, Contains, Err, IfNone, IfOk, IfSome, List, None, Ok, Option, Result, Some, [], ap, arith, false, get_or, inl, inr, length, length-append, map, refl, slice_get, slice_set, subst, suc, sym, take, true, vec_len, zero, ℕ, ◌++◌, ◌+◌, ◌-◌, ◌<◌, ◌∙◌, ◌∷◌, ◌≡◌, ◌≢◌, ◌≤◌, ◌⊎◌}
 pub use Rattle.bindings.proofs.Bound.{read_off, same_block, same_place, statement_at}
 pub use Rattle.bindings.proofs.Fitting.{SourceOperand, met_at, source_operand}
+pub use Rattle.bindings.proofs.Knowing.{known_too}
 pub use Rattle.bindings.proofs.Lists.{all_filled, map_Some_same, no_gap, one_more_value, place_of, same_list, set_elsewhere, set_here, take_all}
 pub use Rattle.bindings.proofs.Naming.{constant_at, input_at, source_at, source_register, target_stands}
 pub use Rattle.bindings.proofs.Reading.{at_most_three, no_width, same_inst, width_of_inst}
 pub use Rattle.bindings.proofs.Roots.{in_any_order, match_here, match_there}
 pub use Rattle.bindings.specs.Checks.{IsRootOperation}
+pub use Rattle.bindings.specs.Known.{Knowledge, known_by, known_in}
 pub use Rattle.bindings.specs.Laws.{TemporariesStandBefore}
 pub use Rattle.bindings.specs.Match.{IsMatch, MatchesInAnyOrder}
 pub use Rattle.bindings.specs.Operands.{OperandMatches, StandsFor}
@@ -17,6 +19,7 @@ pub use Rattle.ir_core.specs.Names.{width_of}
 pub use Rattle.ir_core.specs.Reads.{IsRead}
 pub use Rattle.ir_core.specs.declared.function.Function.{Function}
 pub use Rattle.ir_core.specs.declared.instruction.Inst.{Inst}
+pub use Rattle.ir_core.specs.declared.operand.Operand.{Operand}
 pub use Rattle.ir_core.specs.declared.operand.Register.{Register}
 pub use Rattle.matcher.specs.Laws.{MatchesHaveOneBinding}
 pub use Rattle.matcher.specs.Slots.{AreAsMany, AreSlotsOf, HasName, HasOperand, HasStatement, IsFilledAs, Keeps, Knows, KnowsFrom, KnowsName, KnowsOperand, KnowsStatement, OperandsMatch}

@@ -1,5 +1,5 @@
 -- A rule matches at an instruction with one binding at most.
-use Rattle.matcher.proofs.Common.{◌≡◌, inl, inr, ℕ, zero, suc, ◌+◌, ◌<◌, ◌≤◌, List, length, Some, sym, ap, subst, ◌∙◌, arith, slice_get, cases_eq, slice_get_cases, slice_get_within, same_Some, IsInst, IsRead, Function, Inst, Register, Number, IsRule, SourceMayRead, Fixed, operands_of, Argument, Rule, Statement, Contains-from_get, IsNamedInSource, HasNoFault, MatchesHaveOneBinding, MatchesInAnyOrder, StandsFor, OperandMatches, StatementMatches, Binding, same_place, SourceOperand, source_operand, met_at, place_of, same_list, same_inst, in_any_order}
+use Rattle.matcher.proofs.Common.{◌≡◌, inl, inr, ℕ, zero, suc, ◌+◌, ◌<◌, ◌≤◌, List, length, Some, sym, ap, subst, ◌∙◌, arith, slice_get, cases_eq, slice_get_cases, slice_get_within, same_Some, IsInst, IsRead, Function, Inst, Register, Number, IsRule, SourceMayRead, Fixed, operands_of, Argument, Rule, Statement, Contains-from_get, IsNamedInSource, HasNoFault, MatchesHaveOneBinding, Knowledge, MatchesInAnyOrder, StandsFor, OperandMatches, StatementMatches, Binding, same_place, SourceOperand, source_operand, met_at, place_of, same_list, same_inst, in_any_order}
 use Rattle.ir_core.specs.Reads.{Read}
 use Rattle.ir_core.specs.declared.operand.Operand.{Operand}
 use Rattle.ir_core.specs.declared.operand.Operand.TheVariants as operands
@@ -40,7 +40,7 @@ same_binding x y block place statements inputs constants typing =
     ∙ ap (λ v. made y.block y.place y.statements y.inputs v x.typing) constants
     ∙ ap (λ v. made y.block y.place y.statements y.inputs y.constants v) typing
 
-module _ (f : Function) (b p : ℕ) (rule : Rule) (is_rule : IsRule rule) (x y : Binding) (is_x : MatchesInAnyOrder f b p rule x) (is_y : MatchesInAnyOrder f b p rule y) where
+module _ (known : Knowledge) (f : Function) (b p : ℕ) (rule : Rule) (is_rule : IsRule rule) (x y : Binding) (is_x : MatchesInAnyOrder known f b p rule x) (is_y : MatchesInAnyOrder known f b p rule y) where
   -- both bindings have one register for statement j
   abbrev Agree : ℕ → Type 0
   Agree j = slice_get x.statements j ≡ slice_get y.statements j
@@ -151,8 +151,8 @@ module _ (f : Function) (b p : ℕ) (rule : Rule) (is_rule : IsRule rule) (x y :
       (same_list x.typing y.typing same_count (on_class no_fault))
 
 -- without regard to the order of instructions
-pub one_in_any_order : (f : Function) (b k : ℕ) (rule : Rule) (x y : Binding) → IsRule rule → HasNoFault rule → MatchesInAnyOrder f b k rule x → MatchesInAnyOrder f b k rule y → x ≡ y
-one_in_any_order f b k rule x y is_rule no_fault is_x is_y = one_binding f b k rule is_rule x y is_x is_y no_fault
+pub one_in_any_order : {known : Knowledge} (f : Function) (b k : ℕ) (rule : Rule) (x y : Binding) → IsRule rule → HasNoFault rule → MatchesInAnyOrder known f b k rule x → MatchesInAnyOrder known f b k rule y → x ≡ y
+one_in_any_order {known = known} f b k rule x y is_rule no_fault is_x is_y = one_binding known f b k rule is_rule x y is_x is_y no_fault
 
 pub matches_have_one_binding : MatchesHaveOneBinding
 matches_have_one_binding f b k rule x y is_rule no_fault is_x is_y =

@@ -4,6 +4,7 @@ ghost use Rattle.std.specs.Prelude.{◌≡◌, ◌<◌, ◌^◌, length, All, If
 ghost use Rattle.rule_core.specs.Checks.{IsRule};
 ghost use Rattle.rule_typing.specs.Classes.{IsClassified};
 ghost use Rattle.rule_typing.specs.Faults.{HasNoFault};
+ghost use Rattle.bindings.specs.Known.{Knowledge};
 ghost use Rattle.bindings.specs.Match.{MatchesInAnyOrder};
 ghost use Rattle.bindings.specs.declared.binding.Binding.{Binding};
 
@@ -27,7 +28,7 @@ pub(crate) fn candidate(
     requires classes { IsClassified rule.now }
     requires typed { HasNoFault rule.now }
     ensures forced { IfOk result (λ found.
-        (m : Binding) → MatchesInAnyOrder f.now block place rule.now m → found ≡ Some m) }
+        (known : Knowledge) (m : Binding) → MatchesInAnyOrder known f.now block place rule.now m → found ≡ Some m) }
     ensures place { IfOk result (λ found. IfSome found (λ binding. (binding.block ≡ block) × (binding.place ≡ place))) }
 {
     let mut slots = Slots::new(alloc, rule, Register::Result(block, place))?;

@@ -1,12 +1,13 @@
 //! Where a rule matches.
 
-ghost use Rattle.std.specs.Prelude.{◌<◌, ◌^◌, length, All, IfOk, IfSome, IfNone};
+ghost use Rattle.std.specs.Prelude.{◌<◌, ◌≤◌, ◌^◌, length, All, IfOk, IfSome, IfNone};
 ghost use Rattle.ir_core.specs.Blocks.{HasInst};
 ghost use Rattle.ir_core.specs.Checks.{MeetsChecks};
 ghost use Rattle.rule_core.specs.Checks.{IsRule};
 ghost use Rattle.rule_typing.specs.Classes.{IsClassified};
 ghost use Rattle.rule_typing.specs.Faults.{HasNoFault};
 ghost use Rattle.bindings.specs.Facts.{AreFactsOf};
+ghost use Rattle.bindings.specs.Known.{known_by};
 ghost use Rattle.bindings.specs.Match.{IsMatch, MatchesInAnyOrder};
 ghost use Rattle.bindings.specs.declared.binding.Binding.{Binding};
 
@@ -15,12 +16,14 @@ use bindings::{
     Binding, FunctionFacts, is_match, is_root_operation, temporaries_stand_before_roots,
 };
 use ir_core::Function;
+use known_bits::{Facts, facts_before};
 use rule_core::Rule;
 use std::alloc::{AllocError, Global};
 
 /// The binding with which a rule matches at an instruction of a function, or `None` where it doesn't match there.
 /// Where the instruction is the same operation as the rule's root, all blocks are searched for reached ones and for
-/// uses of registers: [`match_in`] takes these as an argument. Elsewhere it takes no memory.
+/// uses of registers, and the bits of the results before it are found: [`match_in`] takes these as arguments. Elsewhere
+/// it takes no memory.
 pub fn match_at(
     alloc: Global,
     f: &Function,
@@ -46,11 +49,12 @@ pub fn match_at(
         return Ok(None);
     }
     let facts = FunctionFacts::of(alloc, f)?;
-    match_in(alloc, f, &facts, block, place, rule)
+    let known = facts_before(alloc, f, block, place)?;
+    match_in(alloc, f, &facts, &known, block, place, rule)
 }
 
-/// The same, with the facts of the whole function as an argument, and without regard to the order of instructions in
-/// the block.
+/// The same, with the facts of the whole function and what is known of the results of the block as arguments, and
+/// without regard to the order of instructions in the block.
 ///
 /// It takes as many steps as the rule has operands and nodes, for each of its classes; and no memory where the block
 /// isn't reached, or the instruction isn't the same operation as the rule's root.
@@ -59,18 +63,21 @@ pub fn match_in(
     alloc: Global,
     f: &Function,
     facts: &FunctionFacts,
+    known: &Facts,
     block: u32,
     place: u32,
     rule: &Rule,
 ) -> Result<Option<Binding>, AllocError>
     requires insts { All (λ b. length b.insts < 2 ^ 32) f.now.blocks }
     requires facts { AreFactsOf f.now facts.now }
+    requires few { All (λ bits. length bits ≤ 64) known.now.results }
     requires place { HasInst f.now block place }
     requires rule { IsRule rule.now }
     requires classes { IsClassified rule.now }
     requires typed { HasNoFault rule.now }
-    ensures ok { IfOk result (λ found. IfSome found (MatchesInAnyOrder f.now block place rule.now)) }
-    ensures none { IfOk result (λ found. IfNone found ((binding : Binding) → ¬ MatchesInAnyOrder f.now block place rule.now binding)) }
+    ensures ok { IfOk result (λ found. IfSome found (MatchesInAnyOrder (known_by known.now) f.now block place rule.now)) }
+    ensures none { IfOk result (λ found. IfNone found ((binding : Binding)
+        → ¬ MatchesInAnyOrder (known_by known.now) f.now block place rule.now binding)) }
 {
     if !facts.flow.reached(block) || !is_root_operation(f, block, place, rule) {
         return Ok(None);
@@ -78,7 +85,7 @@ pub fn match_in(
     let Some(binding) = candidate(alloc, f, block, place, rule)? else {
         return Ok(None);
     };
-    if is_match(f, facts, rule, &binding) {
+    if is_match(f, facts, known, rule, &binding) {
         Ok(Some(binding))
     } else {
         Ok(None)

@@ -1,8 +1,8 @@
-use Rattle.bindings.proofs.Common.{refl, sym, subst, List, Contains, Formula, holds, fails}
+use Rattle.bindings.proofs.Common.{refl, sym, subst, List, Contains, holds, fails, known_by}
 use Rattle.ir_core.specs.declared.operand.Operand.{Operand}
 use Rattle.ir_core.specs.declared.operand.Operand.TheVariants as operands
 use Rattle.bindings.proofs.Fitting.{AllMatch, constants_fit}
-use Rattle.bindings.proofs.Uses.{uses_met, nothing_said, uses_asked}
+use Rattle.bindings.proofs.Uses.{all_asked, fact_met, uses_met}
 use Rattle.bindings.proofs.Lists.{never_met}
 use Rattle.bindings.proofs.check.is_match.Goals as goal
 use Rattle.bindings.proofs.check.is_match.Goals.{then-not-reached-via-then-not-reached, then-not-reached-via-else-not-reached+then-not-has_sizes, then-not-statements_match-via-then-not-statements_match, then-not-statements_match-via-else-not-statements_match+then-has_undef, then-not-is_typing-via-then-not-is_typing, then-not-is_typing-via-else-not-is_typing+then-not-holds}
@@ -12,10 +12,19 @@ holds-requires-clause-constants c =
     constants_fit c.args.f.now c.args.rule.now c.args.binding.now c.requires.rule (holds c.is_typing.result c.is_typing.ensures c.if-not-is_typing.false)
     ((holds c.has_sizes.result c.has_sizes.ensures c.if-not-has_sizes.false).2) (holds c.statements_match.result c.statements_match.ensures c.if-not-statements_match.false)
 
+pub are_met-requires-clause-typing : goal.are_met-requires-clause-typing
+are_met-requires-clause-typing c = holds c.is_typing.result c.is_typing.ensures c.if-not-is_typing.false
+
+pub are_met-requires-clause-constants : goal.are_met-requires-clause-constants
+are_met-requires-clause-constants c =
+    constants_fit c.args.f.now c.args.rule.now c.args.binding.now c.requires.rule (holds c.is_typing.result c.is_typing.ensures c.if-not-is_typing.false)
+    ((holds c.has_sizes.result c.has_sizes.ensures c.if-not-has_sizes.false).2) (holds c.statements_match.result c.statements_match.ensures c.if-not-statements_match.false)
+
 pub returns : goal.returns
 returns c =
     let sizes = holds c.has_sizes.result c.has_sizes.ensures c.if-not-has_sizes.false in
-    let match : AllMatch c.args.f.now c.args.rule.now c.args.binding.now = holds c.statements_match.result c.statements_match.ensures c.if-not-statements_match.false in (
+    let match : AllMatch c.args.f.now c.args.rule.now c.args.binding.now = holds c.statements_match.result c.statements_match.ensures c.if-not-statements_match.false in
+    let there = known_by c.args.known.now c.args.binding.now.block c.args.binding.now.place in (
       λ yes. record {
         block = refl;
         place = refl;
@@ -28,12 +37,10 @@ returns c =
         constant_count = sizes.2;
         typing = holds c.is_typing.result c.is_typing.ensures c.if-not-is_typing.false;
         precondition = holds c.holds.result c.holds.ensures c.if-not-holds.false;
-        one_use = uses_met c.args.f.now c.args.rule.now c.args.binding.now c.args.facts.now c.requires.facts
-            (λ formula among. c.are_met.ensures.0 yes formula (subst (λ (fs : List Formula). Contains fs formula) (sym c.as_slice-2.ensures) among));
-        no_facts = λ formula among. nothing_said c.args.facts.now c.args.binding.now formula (c.are_met.ensures.0 yes formula (subst (λ (fs : List Formula). Contains fs formula) (sym c.as_slice-2.ensures) among));
+        one_use = uses_met c.args.f.now c.args.rule.now c.args.binding.now c.args.facts.now there c.requires.facts (c.are_met.ensures.0 yes);
+        facts = λ formula among. fact_met c.args.f.now c.args.rule.now c.args.binding.now c.args.facts.now there c.requires.facts formula (c.are_met.ensures.0 yes formula among);
       },
-      λ m. c.are_met.ensures.1 (λ formula among.
-          uses_asked c.args.f.now c.args.rule.now c.args.binding.now c.args.facts.now c.requires.facts m.one_use m.no_facts formula (subst (λ (fs : List Formula). Contains fs formula) c.as_slice-2.ensures among)),
+      λ m. c.are_met.ensures.1 (all_asked c.args.f.now c.args.rule.now c.args.binding.now c.args.facts.now there c.requires.facts m.one_use m.facts),
     )
 
 pub returns-then-not-reached : goal.returns-then-not-reached

@@ -1,4 +1,4 @@
-use Rattle.matcher.proofs.Common.{fails, in_any_order}
+use Rattle.matcher.proofs.Common.{refl, fails, in_any_order, known_by}
 use Rattle.matcher.proofs.Ordered.{found_in_order, none_in_order}
 use Rattle.matcher.proofs.Rooted.{matched_operation}
 use Rattle.matcher.proofs.matching.match_at.Goals as goal
@@ -10,8 +10,10 @@ returns-then-not-is_root_operation-clause-none c m is =
 
 pub returns-clause-ok : goal.returns-clause-ok
 returns-clause-ok c =
-    found_in_order c.temporaries_stand_before_roots.ensures c.args.f.now c.args.block c.args.place c.args.rule.now c.requires.checks c.requires.rule
-    c.match_in.result c.match_in.ensures.ok
+    found_in_order (known_by c.in_ok-known.known) c.args.f.now c.args.block c.args.place (λ x. rw (c.in_ok-known.ensures.block, c.in_ok-known.ensures.results) refl)
+    c.temporaries_stand_before_roots.ensures c.args.rule.now c.requires.checks c.requires.rule c.match_in.result c.match_in.ensures.ok
 
 pub returns-clause-none : goal.returns-clause-none
-returns-clause-none c = none_in_order c.args.f.now c.args.block c.args.place c.args.rule.now c.match_in.result c.match_in.ensures.none
+returns-clause-none c =
+    none_in_order (known_by c.in_ok-known.known) c.args.f.now c.args.block c.args.place (λ x. rw (c.in_ok-known.ensures.block, c.in_ok-known.ensures.results) refl)
+    c.args.rule.now c.match_in.result c.match_in.ensures.none
