@@ -1,5 +1,5 @@
 -- A match stays where what it depends on does.
-use Rattle.moved_matches.proofs.Common.{◌≡◌, ℕ, zero, suc, ◌<◌, List, [], ◌∷◌, length, map, Some, refl, sym, ap, subst, ◌∙◌, arith, Contains, slice_get, length-map, same_Some, slice_get_within, IsInst, Read, IsRead, reads_of, Function, Inst, Op, Operand, Register, contains_at, Argument, Rule, Statement, from_map, get_from_map, get-map, Substitution, IsDefinite, substituted_operand, substituted_op, substituted_inst, IsUsedOnce, MatchesWhere, OperandMatches, StandsFor, AreKept, IsSameOperation, StatementMatches, promises_of_inst, promises_of_statement, Binding, reads_at_inst, same_inst, StandsAt, StandsThere, moved_binding, register_or, MatchesStay}
+use Rattle.moved_matches.proofs.Common.{◌≡◌, ℕ, zero, suc, ◌<◌, List, [], ◌∷◌, length, map, Option, None, Some, option_map, none-some, refl, sym, ap, subst, ◌∙◌, arith, Contains, slice_get, length-map, same_Some, slice_get_within, IsInst, Read, IsRead, reads_of, Function, Inst, Op, Operand, Register, contains_at, Argument, Rule, Statement, from_map, get_from_map, get-map, Substitution, IsDefinite, substituted_operand, substituted_op, substituted_inst, IsUsedOnce, KnowsAsMuch, facts_follow, Name, Knowledge, operand_for, MatchesWhere, OperandMatches, StandsFor, AreKept, IsSameOperation, StatementMatches, promises_of_inst, promises_of_statement, Binding, reads_at_inst, same_inst, StandsAt, StandsThere, moved_binding, register_or, MatchesStay}
 use Rattle.ir_core.specs.declared.instruction.Op.TheVariants as ops
 use Rattle.ir_core.specs.declared.operand.Operand.TheVariants as operands
 use Rattle.ir_core.specs.declared.operand.Register.TheVariants as registers
@@ -69,7 +69,8 @@ some_at [] k within = absurd (omega arith)
 some_at (a ∷ xs) zero within = (a, refl)
 some_at (a ∷ xs) (suc k) within = some_at xs k (omega arith)
 
-module _ (Before Before' : ℕ → ℕ → Type 0) (f f' : Function) (to : Substitution) (rule : Rule) (m : Binding) (k : ℕ) (definite : IsDefinite to) (is : MatchesWhere Before f m.block m.place rule m) (there : StandsThere Before Before' f f' to m k) where
+module _ (Before Before' : ℕ → ℕ → Type 0) (known known' : Knowledge) (f f' : Function) (to : Substitution) (rule : Rule) (m : Binding) (k : ℕ) (definite : IsDefinite to) (is : MatchesWhere Before known f m.block m.place rule m)
+    (there : StandsThere Before Before' known known' f f' to rule m k) where
   -- the instruction of a statement in the other function
   bound_then : (j p q : ℕ) → slice_get m.statements j ≡ Some (registers.Result m.block p) → StandsAt f f' to m.block p q
       → slice_get (map (λ r. register_or r (to r)) m.statements) j ≡ Some (registers.Result m.block q)
@@ -155,7 +156,34 @@ module _ (Before Before' : ℕ → ℕ → Type 0) (f f' : Function) (to : Subst
       let place : q ≡ p = cc in
       subst (λ (n : ℕ). Before' n k) place (before (is.before j h.place less h.bound))
 
-  match_then : MatchesWhere Before' f' m.block k rule (moved_binding to k m)
+  -- what a register stands for is there, and the same is known of it
+  gives_then : (r : Name) (y : Operand) → operand_for (moved_binding to k m) r ≡ Some y → (x : Operand) × (operand_for m r ≡ Some x) × (y ≡ substituted_operand to x)
+  gives_then (names.Input i) y at = let (x, was, now) = get_from_map (substituted_operand to) m.inputs i y at in (x, was, sym now)
+  gives_then (names.Source j) y at = of_statement (slice_get (map (λ r. register_or r (to r)) m.statements) j) refl at
+    where
+      of_statement : (o : Option Register) → slice_get (map (λ r. register_or r (to r)) m.statements) j ≡ o → option_map operands.Register o ≡ Some y
+          → (x : Operand) × (option_map operands.Register (slice_get m.statements j) ≡ Some x) × (y ≡ substituted_operand to x)
+      of_statement None is_o h = absurd (none-some y h)
+      of_statement (Some new) is_o h =
+          let (old, was, now) = get_from_map (λ x. register_or x (to x)) m.statements j new is_o in
+          let (s, is_statement) = some_at rule.source j (let within : j < length m.statements = slice_get_within m.statements j old was in omega (arith, within, is.statement_count)) in
+          let bound = is.statements j s is_statement in
+          let same : old ≡ registers.Result m.block bound.place = same_Some old (registers.Result m.block bound.place) (sym was ∙ bound.bound) in
+          let (q, stands, before) = there.bound j bound.place bound.bound in
+          let names_it : to old ≡ operands.Register (registers.Result m.block q) = ap to same ∙ stands.register in
+          let is_that : registers.Result m.block q ≡ new = sym (ap (register_or old) names_it) ∙ now in (
+            operands.Register old,
+            ap (option_map operands.Register) was,
+            sym (same_Some (operands.Register new) y h) ∙ sym (ap operands.Register is_that) ∙ sym names_it,
+          )
+  gives_then (names.Target j) y at = absurd (none-some y at)
+
+  as_much_then : KnowsAsMuch rule (known m.block m.place) (known' m.block k) m (moved_binding to k m)
+  as_much_then r y asks at =
+      let (x, was, is_y) = gives_then r y at in
+      (x, was, there.bits r x asks was ∙ ap (known' m.block k) (sym is_y))
+
+  match_then : MatchesWhere Before' known' f' m.block k rule (moved_binding to k m)
   match_then = record {
     block = refl;
     place = refl;
@@ -171,8 +199,8 @@ module _ (Before Before' : ℕ → ℕ → Type 0) (f f' : Function) (to : Subst
     typing = is.typing;
     precondition = is.precondition;
     one_use = one_use_then;
-    no_facts = is.no_facts;
+    facts = λ formula among. facts_follow rule (known m.block m.place) (known' m.block k) m (moved_binding to k m) (λ a. refl) as_much_then formula among (is.facts formula among);
   }
 
 pub matches_stay : (Before Before' : ℕ → ℕ → Type 0) → MatchesStay Before Before'
-matches_stay Before Before' f f' to rule m k definite is there = match_then Before Before' f f' to rule m k definite is there
+matches_stay Before Before' known known' f f' to rule m k definite is there = match_then Before Before' known known' f f' to rule m k definite is there

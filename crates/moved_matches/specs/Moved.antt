@@ -8,8 +8,11 @@ use Rattle.ir_core.specs.declared.operand.Operand.{Operand}
 use Rattle.ir_core.specs.declared.operand.Operand.TheVariants as operands
 use Rattle.ir_core.specs.declared.operand.Register.{Register}
 use Rattle.ir_core.specs.declared.operand.Register.TheVariants as registers
+use Rattle.rule_core.specs.declared.rule.Register.{Register as Name}
+use Rattle.rule_core.specs.declared.rule.Rule.{Rule}
 use Rattle.use_counts.specs.Uses.{IsUsedOnce}
 use Rattle.substitution.specs.Substitution.{Substitution, substituted_operand, substituted_inst}
+use Rattle.bindings.specs.Known.{AsksBitsOf, Knowledge, operand_for}
 use Rattle.bindings.specs.declared.binding.Binding.{Binding}
 
 -- the register that a substitution gives for one, and that one itself where it gives no register
@@ -30,11 +33,12 @@ pub record StandsAt (f f' : Function) (to : Substitution) (b p q : ℕ) : Type 0
   pub register : to (registers.Result b p) ≡ operands.Register (registers.Result b q)
 
 -- What a match depends on is in the other function, with its root at place k of its block: the block is reached, the
--- instructions of its statements are there, temporaries are related to the root if they were, and a register with
--- exactly one use has exactly one.
-pub record StandsThere (Before Before' : ℕ → ℕ → Type 0) (f f' : Function) (to : Substitution) (m : Binding) (k : ℕ) : Type 0 where
+-- instructions of its statements are there, temporaries are related to the root if they were, a register with exactly
+-- one use has exactly one, and the same is known of what its registers stand for of whose bits the rule says something.
+pub record StandsThere (Before Before' : ℕ → ℕ → Type 0) (known known' : Knowledge) (f f' : Function) (to : Substitution) (rule : Rule) (m : Binding) (k : ℕ) : Type 0 where
   pub reached : IsReached f m.block → IsReached f' m.block
   pub root : to (registers.Result m.block m.place) ≡ operands.Register (registers.Result m.block k)
   pub bound : (j p : ℕ) → slice_get m.statements j ≡ Some (registers.Result m.block p)
       → (q : ℕ) × StandsAt f f' to m.block p q × (Before p m.place → Before' q k)
   pub uses : (r s : Register) → Contains m.statements r → to r ≡ operands.Register s → IsUsedOnce f r → IsUsedOnce f' s
+  pub bits : (r : Name) (x : Operand) → AsksBitsOf rule r → operand_for m r ≡ Some x → known m.block m.place x ≡ known' m.block k (substituted_operand to x)

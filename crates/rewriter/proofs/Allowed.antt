@@ -1,5 +1,5 @@
 -- Each run through the inserted instructions is allowed by an effect of the root, where the rule is valid.
-use Rattle.rewriter.proofs.Common.{◌≡◌, ℕ, suc, ◌+◌, ◌-◌, ◌<◌, ◌≤◌, inl, inr, List, [], ◌∷◌, length, map, take, Option, Some, refl, sym, ap, subst, ◌∙◌, arith, slice_get, Contains, range_with_len, option_map, cases_eq, cases_lt, length-map, take_all, same_Some, slice_get-map, slice_get-get_or, Number, AllowsValue, AllowsEffect, IsValueOf, Value, Effect, AllowsEffect-trans, IsAssigned, HasInst, IsInst, MeetsChecks, Read, reads_of, Registers, AnyNumber, OperandGives, OpGives, IsWalk, IsReached, Function, Inst, Register, some_at, contains_at, IsRule, Choice, choices_among, LeavesOpen, Held, Given, Ending, Undefines, Holds, given_by, at_start, temporaries_of, holding_source, holding_target, StatementGives, ArgumentGives, Follows, TemporariesEnd, SourceGives, TargetGives, GivesLast, nothing_said, Setting, SettingFits, SourceChoicesFit, witness_number, HaveEffects, IsValid, Rule, Statement, HeldFits, GivenFits, ChoiceIsReady, ArgumentIsReady, source_given, Contains-from_get, source_ready, follows_once, temporaries_fit, temporaries_same, choices_fit, EquationHolds, not_both_assigned, one_inst, has_inst, NumbersFit, PutIsAllowed, AllowsPut, MayHold, stands_for, RunsThrough, Rewrite, value_of, pulled_back, inst_reads, IsTheRoot, stands_root, stands_other, moved_unmoved, is_moved, IsMatch, StatementMatches, Binding, rewrite_of}
+use Rattle.rewriter.proofs.Common.{◌≡◌, ℕ, suc, ◌+◌, ◌-◌, ◌<◌, ◌≤◌, inl, inr, List, [], ◌∷◌, length, map, take, Option, Some, refl, sym, ap, subst, ◌∙◌, arith, slice_get, Contains, range_with_len, option_map, cases_eq, cases_lt, length-map, take_all, same_Some, slice_get-map, slice_get-get_or, Number, AllowsValue, AllowsEffect, IsValueOf, Value, Effect, AllowsEffect-trans, IsAssigned, HasInst, IsInst, MeetsChecks, Read, reads_of, Registers, AnyNumber, OperandGives, OpGives, IsWalk, IsReached, Function, Inst, Register, some_at, contains_at, IsRule, Choice, choices_among, LeavesOpen, Held, Given, Ending, Undefines, Holds, given_by, at_start, temporaries_of, holding_source, holding_target, StatementGives, ArgumentGives, Follows, TemporariesEnd, SourceGives, TargetGives, GivesLast, KeepsFacts, Setting, SettingFits, SourceChoicesFit, witness_number, HaveEffects, IsValid, Rule, Statement, HeldFits, GivenFits, ChoiceIsReady, ArgumentIsReady, source_given, Contains-from_get, source_ready, follows_once, temporaries_fit, temporaries_same, choices_fit, EquationHolds, not_both_assigned, one_inst, has_inst, NumbersFit, PutIsAllowed, AllowsPut, MayHold, stands_for, RunsThrough, Rewrite, value_of, pulled_back, inst_reads, IsTheRoot, stands_root, stands_other, moved_unmoved, is_moved, IsMatch, StatementMatches, Binding, rewrite_of}
 use Rattle.ops.specs.declared.value.Value.TheVariants as values
 use Rattle.ops.specs.declared.value.Effect.TheVariants as effects
 use Rattle.ir_core.specs.declared.operand.Operand.{Operand}
@@ -15,6 +15,7 @@ use Rattle.rewriter.proofs.Frozen.{argument_fits}
 use Rattle.rewriter.proofs.Picks.{places, in_order}
 use Rattle.rewriter.proofs.Putting.{IsSettled, results, results_length}
 use Rattle.rewriter.proofs.Root.{root_allows}
+use Rattle.rewriter.proofs.Said.{facts_held}
 use Rattle.rewriter.proofs.Setting.{SourceRead, input_read, setting_fits, terms_fit}
 use Rattle.rewriter.proofs.Source.{input_value, input_values, input_is, Standing, temporaries_stand}
 use Rattle.rewriter.proofs.Target.{GivesOnly, Ready, Done, Ends, target_runs}
@@ -181,6 +182,13 @@ module _ (f : Function) (b k : ℕ) (rule : Rule) (binding : Binding) (checked :
     choices_are_fit : SourceChoicesFit rule typing choices
     choices_are_fit = choices_fit rule typing setting H checked match.typing setting_fit held_fit
 
+    -- the source's temporaries keep what the rule says of bits
+    facts_kept : KeepsFacts rule typing binding.constants inputs
+    facts_kept then runs =
+        facts_held f b k rule binding checked meets numbers match held may.widths
+        (λ p inst lt is other. may.equations binding.block p inst is other (has_inst f binding.block p inst is, λ passed walk. inr (refl, lt)))
+        then (temporaries_fit rule typing checked match.typing binding.constants setting_fit.constants inputs setting_fit.inputs then runs) runs
+
     -- ---- the root
 
     last : (s : Statement) × (slice_get rule.source (length rule.source - 1) ≡ Some s)
@@ -280,7 +288,7 @@ module _ (f : Function) (b k : ℕ) (rule : Rule) (binding : Binding) (checked :
           of_source = of_source;
           of_target = of_target.1;
         } in
-        let allows : AllowsEffect at_root.0 of_target.0 = valid setting choices at_root.0 of_target.0 (record { fits = setting_fit; precondition = match.precondition; facts = λ held_then runs. nothing_said held_then _ rule.precondition match.no_facts }) have in
+        let allows : AllowsEffect at_root.0 of_target.0 = valid setting choices at_root.0 of_target.0 (record { fits = setting_fit; precondition = match.precondition; facts = facts_kept }) have in
         let e : Effect = at_root.2.0 in
         let op : OpGives AnyNumber held root.width root.op e = subst (λ (i : Inst). OpGives AnyNumber held i.width i.op e) m_inst at_root.2.1 in
         (e, op, of_target.2 e (AllowsEffect-trans e at_root.0 of_target.0 at_root.2.2 allows))

@@ -1,5 +1,7 @@
 -- What the proofs of this crate cite of definitions, of other crates and of the libraries, passed on from one place.
-pub use Rattle.std.proofs.Common.{Bool, Contains, Err, List, None, Ok, OnOk, Option, Result, Some, [], add-one, add-zero, ap, append-nil, append_assoc, arith, bit_and, bit_or, bit_xor, cond, drop, false, flat_map, get_or, if◌then◌else◌, inl, inr, length, length-append, length-take, map, nat_le, not, option_to_list, refl, slice_get, slice_index, slice_index_or, subst, suc, sym, take, true, zero, zero-add, ℕ, ℤ, ◌&&◌, ◌++◌, ◌+◌, ◌-◌, ◌<◌, ◌==◌, ◌^◌, ◌||◌, ◌∙◌, ◌∷◌, ◌≡◌, ◌≢◌, ◌≤◌, ◌⊎◌}
+pub use Rattle.std.proofs.Common.{Bool, Contains, Err, List, None, Ok, OnOk, Option, Result, Some, IsTrue, [], add-one, add-zero, ap, append-nil, append_assoc, arith, bit_and, bit_or, bit_xor, cond, drop, eq-eqb, false, flat_map, get_or, if◌then◌else◌, inl, inr, length, length-append, length-take, map, nat_le, ne_eqb, not, option_to_list, refl, slice_get, slice_index, slice_index_or, subst, suc, sym, take, true, zero, zero-add, ℕ, ℤ, ◌&&◌, ◌++◌, ◌+◌, ◌-◌, ◌<◌, ◌==◌, ◌^◌, ◌||◌, ◌∙◌, ◌∷◌, ◌≡◌, ◌≢◌, ◌≤◌, ◌⊎◌}
+pub use Rattle.bindings.proofs.Knowing.{asked_before_root}
+pub use Rattle.bindings.specs.Known.{FactFollows, number_of_term, operand_for}
 pub use Rattle.bindings.specs.Match.{IsMatch}
 pub use Rattle.bindings.specs.Operands.{OperandMatches, StandsFor}
 pub use Rattle.bindings.specs.Promises.{AreKept}
@@ -21,10 +23,23 @@ pub use Rattle.ir_core.specs.declared.instruction.Op.TheVariants.{Phi}
 pub use Rattle.ir_core.specs.declared.operand.Register.{Register}
 pub use Rattle.ir_meaning.proofs.Assignments.{not_both_assigned}
 pub use Rattle.ir_meaning.proofs.Equations.{one_inst}
+pub use Rattle.ir_meaning.proofs.Following.{width_known}
 pub use Rattle.ir_meaning.proofs.Pieces.{contains_at, place_in, some_at}
 pub use Rattle.ir_meaning.proofs.Steps.{has_inst, held_elsewhere, held_here}
 pub use Rattle.ir_meaning.specs.HistoryLaws.{EquationHolds, NumbersFit}
 pub use Rattle.ir_meaning.specs.Laws.{HoldWidths}
+pub use Rattle.circuits.specs.declared.known_bit.KnownBit.{KnownBit}
+pub use Rattle.known_bits.proofs.BlockResults.{operand_width}
+pub use Rattle.known_bits.proofs.Having.{has_certain}
+pub use Rattle.known_bits.proofs.Holding.{held_has}
+pub use Rattle.known_bits.proofs.Loops.{any_width}
+pub use Rattle.known_bits.proofs.Places.{known_earlier, masked_number, non_zero_number, result_before}
+pub use Rattle.known_bits.proofs.Results.{binary_has, cast_has, choice_has}
+pub use Rattle.known_bits.proofs.Values.{has_nothing}
+pub use Rattle.known_bits.specs.KnownBits.{insts_of, known_at, known_result, known_results}
+pub use Rattle.known_bits.specs.Laws.{HasBits}
+pub use Rattle.known_bits.specs.Words.{known_of}
+pub use Rattle.known_bits.specs.declared.words.Known.{Known}
 pub use Rattle.ops.proofs.Monotone.{comparison-monotone, conversion-monotone, instruction-monotone, selection-monotone, unary-monotone}
 pub use Rattle.ops.proofs.Values.{AllowsEffect-refl, AllowsEffect-trans, AllowsValue-refl}
 unfoldable pub use Rattle.ops.specs.Arithmetic.{arithmetic}
@@ -56,7 +71,7 @@ pub use Rattle.ops.specs.declared.value.Value.TheVariants.{Bits, Poison}
 pub use Rattle.rewriter.specs.Laws.{RewrittenFunctionsMeetChecks, RewrittenFunctionsRefine, RewrittenNumbersFit}
 pub use Rattle.rewriter.specs.Put.{argument_put, class_width, count_put, insts_of_op, insts_put, insts_with, is_copy, literal_of, operand_put, result_of_op, result_put, results_put, rewrite_of}
 pub use Rattle.rewriter.specs.Ready.{IsBound, OperandIsReady, op_put}
-pub use Rattle.rule_core.proofs.Facts.{nothing_said}
+pub use Rattle.rule_core.proofs.Facts.{each_said}
 pub use Rattle.rule_core.proofs.Fits.{number_or_zero_fits, residue_lt}
 pub use Rattle.rule_core.proofs.Givens.{get_taken, source_given}
 pub use Rattle.rule_core.proofs.Members.{Contains-flat_map, Contains-from_get, class_stands, flat_map-from, freeze_chosen, operand_class_stands, operand_open, source_operand, statement_open, target_operand, target_statement}
@@ -67,6 +82,7 @@ pub use Rattle.rule_core.proofs.Turns.{at_place, before_place, in_turn-length, i
 pub use Rattle.rule_core.proofs.Unchosen.{temporaries_same}
 pub use Rattle.rule_core.proofs.Witnesses.{choices_fit}
 pub use Rattle.rule_core.specs.Checks.{FlagsFitOp, IsRule, MayStandInSource, ReadsNoUndefAlone, SourceMayRead, TargetMayRead}
+pub use Rattle.rule_core.specs.Facts.{KeepsFacts, fact_holds, facts_hold}
 pub use Rattle.rule_core.specs.Positions.{IsOperandAmong, IsStatementOf, LeavesOpen, assigns_root, binary_left, binary_right, choices_among, choices_of, chooses, compared, condition, copy, freeze, frozen_in, name, one_operand, operand, operands_among, operands_of, reads, reads_constant, select_false, select_true, sign_extended, source_assigns, target_assigns, truncated, truth, undef_in, zero_extended}
 pub use Rattle.rule_core.specs.Readiness.{ArgumentIsReady, ChoiceIsReady, GivenFits, HeldFits}
 pub use Rattle.rule_core.specs.Run.{ArgumentGives, Ending, Follows, Given, GivesLast, GoesOn, Held, Holds, SourceGives, StatementGives, TargetGives, TemporariesEnd, Undefines, at_start, frozen, given_by, holding_source, holding_target, temporaries_of}
@@ -75,6 +91,7 @@ pub use Rattle.rule_core.specs.Typing.{IsTyping}
 pub use Rattle.rule_core.specs.Valid.{ConstantsFit, HaveEffects, InputsFit, IsValid, Setting, SettingFits, SourceChoicesFit, witness_number}
 pub use Rattle.rule_core.specs.declared.rule.Argument.{Argument}
 pub use Rattle.rule_core.specs.declared.rule.Choice.{Choice}
+pub use Rattle.rule_core.specs.declared.rule.Formula.{Formula}
 pub use Rattle.rule_core.specs.declared.rule.Op.TheVariants.{Copy}
 pub use Rattle.rule_core.specs.declared.rule.Rule.{Rule}
 pub use Rattle.rule_core.specs.declared.rule.Statement.{Statement}

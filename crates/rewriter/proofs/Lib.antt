@@ -8,6 +8,7 @@ pub mod Picks
 pub mod Putting
 pub mod Target
 pub mod Setting
+pub mod Said
 pub mod Effects
 pub mod Frozen
 pub mod Allowed

@@ -32,7 +32,7 @@ number_own (operands.Number n) own = own n refl
 number_own operands.Undef own = tt
 number_own operands.Poison own = tt
 
-input_fits : (f : Function) (held : Registers) (w : ℕ) (a : Operand) → HoldWidths f held → OperandHasWidth f w a → IsOfItsWidth a → IsValueOf w (input_value held a)
+pub input_fits : (f : Function) (held : Registers) (w : ℕ) (a : Operand) → HoldWidths f held → OperandHasWidth f w a → IsOfItsWidth a → IsValueOf w (input_value held a)
 input_fits f held w (operands.Register r) widths has own =
     elim (held r) as (λ o. held r ≡ o → IsValueOf w (unwrap_or o values.Poison)) [ None ↦ λ is. tt | Some v ↦ λ is. widths r w v has is ] refl
 input_fits f held w (operands.Number n) widths has own = (has, subst (λ x. n.number < 2 ^ x) has own)
