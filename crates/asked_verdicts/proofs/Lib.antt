@@ -5,5 +5,6 @@ pub mod Sequence
 pub mod Storing
 pub mod Keeping
 pub mod Passing
+pub mod Noting
 pub mod Parts
 pub mod Again

@@ -1,13 +1,15 @@
 -- The matches in an arena are those in its function.
-use Rattle.draft_steps.proofs.Common.{◌≡◌, ℕ, List, Some, refl, sym, ap, subst, ◌∙◌, Contains, slice_get, get_or_from_slice_get, IsInst, Read, reads_of, Function, Inst, Register, IsRule, Rule, substituted_inst, IsUsedOnce, MatchesInAnyOrder, Binding, reads_at_inst, moved_binding, matches_stay, placed, AreArranged, arranged, row_of}
+use Rattle.draft_steps.proofs.Common.{◌≡◌, inl, inr, ℕ, suc, ◌+◌, ◌<◌, ◌≤◌, List, length, get_or, Some, refl, sym, ap, subst, ◌∙◌, arith, ne_eqb, Contains, slice_get, cases_eq, cases_lt, get_or_from_slice_get, slice_get_within, MeetsChecks, IsInst, Read, reads_of, Function, Inst, Operand, Register, IsRule, Rule, substituted_inst, substituted_operand, IsUsedOnce, ReadsStandBefore, AsksBitsOf, Knowledge, known_in, operand_for, asked_before_root, no_phi, IsMatch, MatchesInAnyOrder, in_any_order, Binding, reads_at_inst, moved_binding, matches_stay, placed, AreArranged, KnowsTheFunction, arranged, row_of}
+use Rattle.rule_core.specs.declared.rule.Register.{Register as Name}
 use Rattle.ir_core.specs.declared.operand.Operand.TheVariants as operands
 use Rattle.ir_core.specs.declared.operand.Register.TheVariants as registers
-use Rattle.ir_meaning.proofs.Pieces.{contains_at, place_in as place_of}
+use Rattle.ir_meaning.proofs.Pieces.{contains_at, place_in as place_of, some_at}
 use Rattle.moved_matches.specs.Moved.{StandsAt}
 use Rattle.places.specs.Orders.{place_in}
 use Rattle.draft_steps.proofs.Back.{inst_back, numbered}
 use Rattle.draft_steps.proofs.Places.{IsStanding, inst_on, inst_was, placed-is, placed_register, reached_back, reached_on, used_once_back, used_once_on}
-use Rattle.draft_steps.proofs.Rooted.{bound_inst, bound_there, each_come}
+use Rattle.draft_steps.proofs.Positions.{reads_up}
+use Rattle.draft_steps.proofs.Rooted.{bound_inst, bound_there, each_come, named_read}
 
 never_undef : (rows : List (List ℕ)) (r : Register) → placed rows r ≡ operands.Undef → ⊥
 never_undef rows (registers.Parameter p) is = absurd cc
@@ -20,20 +22,45 @@ numbered_definite rows (registers.Result b n) is = absurd cc
 same_register : (r s : Register) → operands.Register r ≡ operands.Register s → r ≡ s
 same_register r s is = cc
 
-module _ (arena : Function) (rows : List (List ℕ)) (are : AreArranged arena rows) (rule : Rule) (m : Binding) (good : IsRule rule) where
+-- nothing is known of results of other blocks
+known_elsewhere : (f : Function) (b k c p q : ℕ) → ¬ (c ≡ b) → known_in f b k (operands.Register (registers.Result c p)) ≡ known_in f b k (operands.Register (registers.Result c q))
+known_elsewhere f b k c p q other = rw (ne_eqb c b other) refl
+
+module _ (reads_before : ReadsStandBefore) (known : Knowledge) (arena : Function) (rows : List (List ℕ)) (are : AreArranged arena rows) (checks : MeetsChecks (arranged arena rows))
+    (rule : Rule) (m : Binding) (good : IsRule rule) where
   abbrev F : Function
   F = arranged arena rows
 
+  abbrev row : List ℕ
+  row = row_of rows m.block
+
   -- ---- from the arena to the function
 
-  module _ (is : MatchesInAnyOrder arena m.block m.place rule m) (stands : Contains (row_of rows m.block) m.place) where
+  module _ (is : MatchesInAnyOrder known arena m.block m.place rule m) (stands : Contains (row_of rows m.block) m.place)
+      (knows : (name : Name) → AsksBitsOf rule name → KnowsTheFunction arena rows known m.block m.place) where
     -- the instruction that a statement is bound to stands: it is the root's, or its result is read
     each_stands : (j p : ℕ) → slice_get m.statements j ≡ Some (registers.Result m.block p) → Contains (row_of rows m.block) p
     each_stands j p at =
         (each_come arena rule m good is (λ t q. Contains (row_of rows m.block) q) stands (λ t p q i s inst r less has is_inst same is_read reads. are.read_stands m.block p i m.block q r is_read reads) j p at).2
 
-    pub placed_match : MatchesInAnyOrder F m.block (place_in (row_of rows m.block) m.place) rule (moved_binding (placed rows) (place_in (row_of rows m.block) m.place) m)
-    placed_match = matches_stay (λ p k. Unit {0}) (λ p k. Unit {0}) arena F (placed rows) rule m (place_in (row_of rows m.block) m.place) (never_undef rows) is (record {
+    -- an instruction that a statement is bound to doesn't stand behind the root
+    bound_before : (j p : ℕ) → slice_get m.statements j ≡ Some (registers.Result m.block p) → Contains row p × (place_in row p ≤ place_in row m.place)
+    bound_before j p at =
+        let (t, near, (has, less)) = each_come arena rule m good is (λ t q. Contains row q × (place_in row q + t ≤ place_in row m.place)) (stands, omega arith)
+        (λ t p q i s inst r few g is_inst same is_read reads. let up = reads_up arena rows are reads_before checks m.block p q i inst r is.reached (no_phi s inst.op same) g.0 is_inst is_read reads in (up.0, omega (arith, up.1, g.1))) j p at in
+        (has, omega (arith, less))
+
+    -- so what it names that is a result of the block stands before the root
+    named_before : (name : Name) (x : Operand) → AsksBitsOf rule name → operand_for m name ≡ Some x → (p : ℕ) → x ≡ operands.Register (registers.Result m.block p)
+        → Contains row p × (place_in row p < place_in row m.place)
+    named_before name x asks at p is_x =
+        let by = named_read arena rule m good is name x (asked_before_root rule name good asks) at in
+        let reader = bound_before by.i by.matched.place by.matched.bound in
+        let up = reads_up arena rows are reads_before checks m.block by.matched.place p by.n by.matched.inst by.r is.reached (no_phi by.s.op by.matched.inst.op by.matched.matches.operation) reader.0 by.matched.is_inst by.is_read_there (by.reads ∙ is_x) in
+        (up.0, omega (arith, up.1, reader.1))
+
+    pub placed_match : MatchesInAnyOrder (known_in F) F m.block (place_in (row_of rows m.block) m.place) rule (moved_binding (placed rows) (place_in (row_of rows m.block) m.place) m)
+    placed_match = matches_stay (λ p k. Unit {0}) (λ p k. Unit {0}) known (known_in F) arena F (placed rows) rule m (place_in (row_of rows m.block) m.place) (never_undef rows) is (record {
       reached = reached_on arena rows are m.block;
       root = refl;
       bound = λ j p at.
@@ -52,11 +79,71 @@ module _ (arena : Function) (rows : List (List ℕ)) (are : AreArranged arena ro
           let standing : IsStanding rows r = subst (IsStanding rows) (sym is_r) (each_stands j p at_p) in
           let same : placed_register rows r ≡ s = same_register (placed_register rows r) s (sym (placed-is rows r) ∙ names) in
           subst (IsUsedOnce F) same (used_once_on arena rows are r standing once);
+      bits = λ name x asks at. knows name asks x (named_before name x asks at);
     })
 
   -- ---- and back
 
-  module _ (n : ℕ) (is : MatchesInAnyOrder F m.block m.place rule m) (at_root : slice_get (row_of rows m.block) m.place ≡ Some n) where
+  module _ (n : ℕ) (in_order : IsMatch F m.block m.place rule m) (at_root : slice_get (row_of rows m.block) m.place ≡ Some n)
+      (knows : (name : Name) → AsksBitsOf rule name → KnowsTheFunction arena rows known m.block n) where
+    is : MatchesInAnyOrder (known_in F) F m.block m.place rule m
+    is = in_any_order F m.block m.place rule m in_order
+
+    root_place : place_in row n ≡ m.place
+    root_place = are.once m.block m.place n at_root
+
+    -- what the match names that is a result of the block is one at a position before the root
+    named_position : (name : Name) (x : Operand) → AsksBitsOf rule name → operand_for m name ≡ Some x → (p : ℕ) → x ≡ operands.Register (registers.Result m.block p)
+        → (d : ℕ) × (slice_get row p ≡ Some d) × (p < m.place)
+    named_position name x asks at p is_x =
+        let by = named_read F rule m good is name x (asked_before_root rule name good asks) at in
+        let up : p < by.matched.place = reads_before F m.block by.matched.place p by.n by.matched.inst by.r checks is.reached by.matched.is_inst
+        (no_phi by.s.op by.matched.inst.op by.matched.matches.operation) by.is_read_there (by.reads ∙ is_x) in
+        let within : m.place < length row = slice_get_within row m.place n at_root in
+        let reader : by.matched.place ≤ m.place = elim (cases_lt (suc by.i) (length rule.source)) [
+          | inl earlier ↦ let before : by.matched.place < m.place = in_order.before by.i by.matched.place earlier by.matched.bound in omega arith
+          | inr last ↦
+              let inside : by.i < length rule.source = slice_get_within rule.source by.i by.s by.is_statement in
+              let root : by.matched.place ≡ m.place = by.matched.matches.root (omega arith) in
+              omega arith
+        ] in
+        let (d, at_p) = some_at row p (omega arith) in
+        (d, at_p, omega arith)
+
+    known_there : (name : Name) (x : Operand) → AsksBitsOf rule name → operand_for m name ≡ Some x → known_in F m.block m.place x ≡ known m.block n (substituted_operand (numbered rows) x)
+    known_there name x asks at =
+        subst (λ p. known_in F m.block p x ≡ known m.block n (substituted_operand (numbered rows) x)) root_place
+        (sym (knows name asks (substituted_operand (numbered rows) x) (before x at) ∙ (given_back x at)))
+      where
+        before : (x : Operand) → operand_for m name ≡ Some x → (d : ℕ) → substituted_operand (numbered rows) x ≡ operands.Register (registers.Result m.block d)
+            → Contains row d × (place_in row d < place_in row n)
+        before (operands.Register (registers.Result c p)) at d is_d =
+            let block : c ≡ m.block = cc in
+            let (e, at_p, less) = named_position name (operands.Register (registers.Result c p)) asks at p (ap (λ (a : ℕ). operands.Register (registers.Result a p)) block) in
+            let number : get_or (row_of rows c) p 0 ≡ d = cc in
+            let same : e ≡ d = sym (get_or_from_slice_get row p e 0 at_p) ∙ ap (λ (a : ℕ). get_or (row_of rows a) p 0) (sym block) ∙ number in
+            let there : slice_get row p ≡ Some d = at_p ∙ ap (λ a. Some a) same in
+            (contains_at row p d there, omega (arith, less, are.once m.block p d there, root_place))
+        before (operands.Register (registers.Parameter p)) at d is_d = absurd cc
+        before (operands.Number a) at d is_d = absurd cc
+        before operands.Undef at d is_d = absurd cc
+        before operands.Poison at d is_d = absurd cc
+
+        given_back : (x : Operand) → operand_for m name ≡ Some x
+            → known_in F m.block (place_in row n) (substituted_operand (placed rows) (substituted_operand (numbered rows) x)) ≡ known_in F m.block (place_in row n) x
+        given_back (operands.Register (registers.Result c p)) at = elim (cases_eq c m.block) [
+          | inl block ↦
+              let (e, at_p, less) = named_position name (operands.Register (registers.Result c p)) asks at p (ap (λ (a : ℕ). operands.Register (registers.Result a p)) block) in
+              let there : get_or (row_of rows c) p 0 ≡ e = ap (λ (a : ℕ). get_or (row_of rows a) p 0) block ∙ get_or_from_slice_get row p e 0 at_p in
+              let back : place_in (row_of rows c) (get_or (row_of rows c) p 0) ≡ p = ap (place_in (row_of rows c)) there ∙ ap (λ (a : ℕ). place_in (row_of rows a) e) block ∙ are.once m.block p e at_p in
+              ap (λ (q : ℕ). known_in F m.block (place_in row n) (operands.Register (registers.Result c q))) back
+          | inr other ↦ known_elsewhere F m.block (place_in row n) c (place_in (row_of rows c) (get_or (row_of rows c) p 0)) p other
+        ]
+        given_back (operands.Register (registers.Parameter p)) at = refl
+        given_back (operands.Number a) at = refl
+        given_back operands.Undef at = refl
+        given_back operands.Poison at = refl
+
     -- an instruction of the arena reads only results of instructions that stand
     reads_stand : (b k : ℕ) (inst : Inst) → IsInst arena b k inst → (i : ℕ) (r : Read) → slice_get (reads_of arena b k inst.width inst.op) i ≡ Some r → (s : Register) → r.operand ≡ operands.Register s → IsStanding rows s
     reads_stand b k inst is_inst i r at (registers.Parameter p) reads = tt
@@ -89,8 +176,8 @@ module _ (arena : Function) (rows : List (List ℕ)) (are : AreArranged arena ro
           };
         }
 
-    pub numbered_match : MatchesInAnyOrder arena m.block n rule (moved_binding (numbered rows) n m)
-    numbered_match = matches_stay (λ p k. Unit {0}) (λ p k. Unit {0}) F arena (numbered rows) rule m n (numbered_definite rows) is (record {
+    pub numbered_match : MatchesInAnyOrder known arena m.block n rule (moved_binding (numbered rows) n m)
+    numbered_match = matches_stay (λ p k. Unit {0}) (λ p k. Unit {0}) (known_in F) known F arena (numbered rows) rule m n (numbered_definite rows) is (record {
       reached = reached_back arena rows are m.block;
       root = number_of m.place n at_root;
       bound = λ j q at. let there = numbered_there j q at in (there.number, there.stands_at, λ h. tt);
@@ -103,4 +190,5 @@ module _ (arena : Function) (rows : List (List ℕ)) (are : AreArranged arena ro
           let here : placed_register rows (registers.Result m.block d) ≡ registers.Result m.block q = ap (λ (k : ℕ). registers.Result m.block k) (are.once m.block q d there.at_place) in
           let once_there : IsUsedOnce F (placed_register rows (registers.Result m.block d)) = subst (IsUsedOnce F) (is_r ∙ sym here) once in
           subst (IsUsedOnce arena) (sym same) (used_once_back arena rows are (registers.Result m.block d) (contains_at (row_of rows m.block) q d there.at_place) once_there);
+      bits = known_there;
     })

@@ -3,6 +3,9 @@ pub use Rattle.std.proofs.Common.{All, AllPairs, Bool, Contains, Err, Global, If
 pub use Rattle.bindings.proofs.Reading.{is_read, reads_at_inst, same_inst}
 pub use Rattle.bindings.proofs.Roots.{in_any_order}
 pub use Rattle.bindings.specs.Laws.{ReadsStandBefore, TemporariesStandBefore}
+pub use Rattle.bindings.proofs.Knowing.{asked_before_root, facts_follow}
+pub use Rattle.bindings.proofs.TemporariesBefore.{no_phi}
+pub use Rattle.bindings.specs.Known.{AskBits, AsksBitsOf, Knowledge, known_in, operand_for}
 pub use Rattle.bindings.specs.Match.{IsMatch, MatchesInAnyOrder}
 pub use Rattle.bindings.specs.Matches.{AreMatchesInAnyOrder, AreMatchesWhere, IsAt, IsMatchAmong, IsMatchInAnyOrder}
 pub use Rattle.bindings.specs.Operands.{StandsFor}
@@ -31,7 +34,7 @@ pub use Rattle.draft.specs.KeptOrders.{KeepsOrders}
 pub use Rattle.draft.specs.Placing.{IsOrdering}
 pub use Rattle.draft.specs.Whole.{HasNoCycles, IsSettled, IsWhole}
 pub use Rattle.draft.specs.declared.draft.Draft.{Draft}
-pub use Rattle.draft_steps.specs.Arranged.{AreArranged, arranged, row_of}
+pub use Rattle.draft_steps.specs.Arranged.{AreArranged, KnowsTheFunction, arranged, row_of}
 pub use Rattle.draft_steps.specs.DeadCode.{AreLeft, AreRead, HasNoDeadCode, HaveInsts, IsBlockLeft, IsEliminating, IsLeft, IsNeededWith, KeepsUses, ReadsStand, ends, is_one, registers_read}
 pub use Rattle.draft_steps.specs.DraftWorklists.{ComesNext, IsOnWorklist, IsWorklistOf}
 pub use Rattle.draft_steps.specs.MatchLaws.{MatchesOfTheArena, MatchesOfTheUntouched}
@@ -95,7 +98,7 @@ pub use Rattle.rewriter.specs.Laws.{RewrittenFunctionsMeetChecks}
 pub use Rattle.rewriter.specs.Put.{argument_put, class_width, count_put, insts_of_op, insts_put, insts_with, is_copy, literal_of, operand_put, result_of_op, result_put, results_put}
 pub use Rattle.rewriter.specs.Ready.{IsBound}
 pub use Rattle.rule_core.proofs.Members.{flat_map-from}
-pub use Rattle.rule_core.specs.Checks.{IsRule, SourceMayRead, TargetMayRead}
+pub use Rattle.rule_core.specs.Checks.{IsBeforeRoot, IsRule, SourceMayRead, TargetMayRead}
 pub use Rattle.rule_core.specs.Terms.{constant_values, in_turn, value_at}
 pub use Rattle.rule_core.specs.declared.rule.Argument.{Argument}
 pub use Rattle.rule_core.specs.declared.rule.Formula.{Formula}

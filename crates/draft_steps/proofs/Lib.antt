@@ -46,6 +46,7 @@ pub mod Rows
 pub mod Reading
 pub mod Once
 pub mod Places
+pub mod Positions
 pub mod Back
 pub mod Arena
 pub mod PlacedMatches

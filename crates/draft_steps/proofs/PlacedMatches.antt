@@ -1,9 +1,11 @@
 -- The matches at an instruction of an arena, as matches in its function.
-use Rattle.draft_steps.proofs.Common.{◌≡◌, inl, inr, ℕ, ◌<◌, List, [], ◌∷◌, get_or, map, Some, refl, sym, ap, subst, ◌∙◌, arith, All, AllPairs, Contains, slice_get, All-contains, Contains-get_or, AllPairs-cons, same_Some, MeetsChecks, Function, first_in, later_in, Rule, Contains-map, from_map, IsMatch, MatchesInAnyOrder, Binding, in_any_order, TemporariesStandBefore, moved_binding, matches_have_one_binding, Match, AreMatchesInAnyOrder, AreMatchesWhere, IsAt, IsMatchAmong, IsMatchInAnyOrder, AreReady, pairs_first, pairs_later, placed, AreArranged, arranged, row_of}
+use Rattle.draft_steps.proofs.Common.{◌≡◌, inl, inr, ℕ, ◌<◌, List, [], ◌∷◌, get_or, map, Some, refl, sym, ap, subst, ◌∙◌, arith, All, AllPairs, Contains, slice_get, All-contains, Contains-get_or, AllPairs-cons, same_Some, MeetsChecks, Function, first_in, later_in, Rule, Contains-map, from_map, IsMatch, Binding, TemporariesStandBefore, moved_binding, matches_have_one_binding, Match, AreMatchesInAnyOrder, AreMatchesWhere, IsAt, IsMatchAmong, IsMatchInAnyOrder, AreReady, pairs_first, pairs_later, placed, AreArranged, arranged, row_of, IsReached, AskBits, AsksBitsOf, Knowledge, KnowsTheFunction, ReadsStandBefore}
+use Rattle.rule_core.specs.declared.rule.Register.{Register as Name}
 use Rattle.bindings.specs.Matches.{ComesBefore}
 use Rattle.places.specs.Orders.{place_in}
 use Rattle.draft_steps.proofs.Arena.{numbered_match, placed_match}
 use Rattle.draft_steps.proofs.Back.{numbered}
+use Rattle.draft_steps.proofs.Places.{reached_back}
 use Rattle.draft_steps.proofs.Rows.{number_there}
 
 -- the match with positions in place of numbers
@@ -22,8 +24,8 @@ same_match m n rule binding =
     let put : ℕ → Binding → Match = λ r x. record { rule = r; binding = x } in
     ap (λ (r : ℕ). put r m.binding) rule ∙ ap (put n.rule) binding
 
-module _ (stand_before : TemporariesStandBefore) (rules : List Rule) (ready : AreReady rules) (arena : Function) (rows : List (List ℕ)) (are : AreArranged arena rows)
-    (checks : MeetsChecks (arranged arena rows)) (b n : ℕ) (has : Contains (row_of rows b) n) where
+module _ (stand_before : TemporariesStandBefore) (reads_before : ReadsStandBefore) (known : Knowledge) (rules : List Rule) (ready : AreReady rules) (arena : Function) (rows : List (List ℕ)) (are : AreArranged arena rows)
+    (checks : MeetsChecks (arranged arena rows)) (b n : ℕ) (has : Contains (row_of rows b) n) (knows : AskBits rules → IsReached arena b → KnowsTheFunction arena rows known b n) where
   abbrev F : Function
   F = arranged arena rows
 
@@ -36,7 +38,14 @@ module _ (stand_before : TemporariesStandBefore) (rules : List Rule) (ready : Ar
   put_at : (m : Match) → IsAt b n m → IsAt b k (put m)
   put_at m of = (of.0, ap (λ (c : ℕ). place_in (row_of rows c) m.binding.place) of.0 ∙ ap (place_in (row_of rows b)) of.1)
 
-  put_is : (m : Match) → IsMatchInAnyOrder rules arena m → IsAt b n m → IsMatchAmong rules F (put m)
+  -- what a rule of these asks of bits is known at the instruction
+  knows_at : (m : Match) (rule : Rule) → slice_get rules m.rule ≡ Some rule → IsReached arena m.binding.block → (p : ℕ) → m.binding.block ≡ b → p ≡ n
+      → (name : Name) → AsksBitsOf rule name → KnowsTheFunction arena rows known m.binding.block p
+  knows_at m rule at reached p block place name asks =
+      subst (λ (c : ℕ). KnowsTheFunction arena rows known c p) (sym block)
+      (subst (KnowsTheFunction arena rows known b) (sym place) (knows (m.rule, rule, name, at, asks) (subst (IsReached arena) block reached)))
+
+  put_is : (m : Match) → IsMatchInAnyOrder known rules arena m → IsAt b n m → IsMatchAmong rules F (put m)
   put_is m is of =
       let stands : Contains (row_of rows m.binding.block) m.binding.place =
       subst (λ (c : ℕ). Contains (row_of rows c) m.binding.place) (sym of.0) (subst (Contains (row_of rows b)) (sym of.1) has) in
@@ -45,7 +54,7 @@ module _ (stand_before : TemporariesStandBefore) (rules : List Rule) (ready : Ar
         rule = is.rule;
         is_rule = is.is_rule;
         matches = stand_before F m.binding.block (place_in (row_of rows m.binding.block) m.binding.place) is.rule (put m).binding checks good
-            (placed_match arena rows are is.rule m.binding good is.matches stands);
+            (placed_match reads_before known arena rows are checks is.rule m.binding good is.matches stands (knows_at m is.rule is.is_rule is.matches.reached m.binding.place of.0 of.1));
       }
 
   here : (m : Match) (rule : Rule) → slice_get rules m.rule ≡ Some rule → IsMatchAmong rules F m → IsAt b k m → IsMatch F b k rule m.binding
@@ -55,14 +64,18 @@ module _ (stand_before : TemporariesStandBefore) (rules : List Rule) (ready : Ar
       (subst (λ (p : ℕ). IsMatch F b p is.rule m.binding) of.1 (subst (λ (d : ℕ). IsMatch F d m.binding.place is.rule m.binding) of.0 is.matches))
 
   -- a match in the function is one of the arena with positions in place of numbers
-  was_put : (ms : List Match) → AreMatchesInAnyOrder rules arena (IsAt b n) ms → (m : Match) → IsMatchAmong rules F m → IsAt b k m → Contains (map put ms) m
+  was_put : (ms : List Match) → AreMatchesInAnyOrder known rules arena (IsAt b n) ms → (m : Match) → IsMatchAmong rules F m → IsAt b k m → Contains (map put ms) m
   was_put ms found m is of =
       let good = (ready m.rule is.rule is.is_rule).checks in
-      let whole : MatchesInAnyOrder F m.binding.block m.binding.place is.rule m.binding = in_any_order F m.binding.block m.binding.place is.rule m.binding is.matches in
       let at_root : slice_get (row_of rows m.binding.block) m.binding.place ≡ Some n =
       subst (λ (c : ℕ). slice_get (row_of rows c) m.binding.place ≡ Some n) (sym of.0) (subst (λ (q : ℕ). slice_get (row_of rows b) q ≡ Some n) (sym of.1) (number_there (row_of rows b) n has)) in
       let old : Match = record { rule = m.rule; binding = moved_binding (numbered rows) n m.binding } in
-      let is_old : IsMatchInAnyOrder rules arena old = record { rule = is.rule; is_rule = is.is_rule; matches = numbered_match arena rows are is.rule m.binding good n whole at_root } in
+      let is_old : IsMatchInAnyOrder known rules arena old = record {
+        rule = is.rule;
+        is_rule = is.is_rule;
+        matches = numbered_match reads_before known arena rows are checks is.rule m.binding good n is.matches at_root
+            (knows_at m is.rule is.is_rule (reached_back arena rows are m.binding.block is.matches.reached) n of.0 refl);
+      } in
       let there : Contains ms old = found.all old is_old (of.0, refl) in
       let one : (put old).binding ≡ m.binding =
       matches_have_one_binding F b k is.rule (put old).binding m.binding good (ready m.rule is.rule is.is_rule).typed
@@ -87,9 +100,9 @@ module _ (stand_before : TemporariesStandBefore) (rules : List Rule) (ready : Ar
       inr (of_x.0 ∙ sym of_m.0, inr (of_x.1 ∙ sym of_m.1, rule_less b n x m first h.1 h.0))))
       (in_order ms later (pairs_later ComesBefore x ms pairs))
 
-  pub placed_matches : (ms : List Match) → AreMatchesInAnyOrder rules arena (IsAt b n) ms → AreMatchesWhere rules F (IsAt b k) (map put ms)
+  pub placed_matches : (ms : List Match) → AreMatchesInAnyOrder known rules arena (IsAt b n) ms → AreMatchesWhere rules F (IsAt b k) (map put ms)
   placed_matches ms found = record {
-    each = each_put ms (λ m. IsMatchInAnyOrder rules arena m × IsAt b n m) (λ m. IsMatchAmong rules F m × IsAt b k m) found.each (λ m h. (put_is m h.0 h.1, put_at m h.1));
+    each = each_put ms (λ m. IsMatchInAnyOrder known rules arena m × IsAt b n m) (λ m. IsMatchAmong rules F m × IsAt b k m) found.each (λ m h. (put_is m h.0 h.1, put_at m h.1));
     all = was_put ms found;
     in_order = in_order ms (λ i d lt. (found.each i d lt).1) found.in_order;
   }

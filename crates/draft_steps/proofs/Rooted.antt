@@ -1,15 +1,17 @@
 -- A chain of operands leads from the root of a match to the instruction of every statement.
-use Rattle.draft_steps.proofs.Common.{◌≡◌, inl, inr, ℕ, zero, suc, ◌+◌, ◌<◌, ◌≤◌, length, Some, sym, ap, subst, ◌∙◌, arith, flat_map, slice_get, cases_lt, same_Some, slice_get_within, IsInst, Read, IsRead, Function, Inst, Register, IsRule, SourceMayRead, Argument, Rule, Statement, flat_map-from, MatchesInAnyOrder, StandsFor, IsSameOperation, StatementMatches, Binding, is_read}
+use Rattle.draft_steps.proofs.Common.{◌≡◌, inl, inr, ℕ, zero, suc, ◌+◌, ◌<◌, ◌≤◌, length, Some, sym, ap, subst, ◌∙◌, arith, flat_map, option_map, slice_get, cases_lt, same_Some, slice_get_within, IsInst, Read, IsRead, Function, Inst, Operand, Register, IsBeforeRoot, IsRule, SourceMayRead, Argument, Rule, Statement, flat_map-from, Knowledge, operand_for, MatchesInAnyOrder, StandsFor, IsSameOperation, StatementMatches, Binding, is_read}
+use Rattle.rule_core.specs.declared.rule.Register.{Register as Name}
 use Rattle.ir_core.specs.declared.operand.Operand.TheVariants as operands
 use Rattle.ir_core.specs.declared.operand.Register.TheVariants as registers
 use Rattle.ir_meaning.proofs.Pieces.{contains_at, place_in}
 use Rattle.rule_core.specs.Positions.{operands_of}
 use Rattle.rule_core.specs.declared.rule.Argument.TheVariants as arguments
 use Rattle.rule_core.specs.declared.rule.Op.{Op as RuleOp}
+use Rattle.rule_core.specs.declared.rule.Operand.{Operand as RuleOperand}
 use Rattle.rule_core.specs.declared.rule.Register.TheVariants as names
 use Rattle.moved_matches.proofs.Staying.{some_at}
 
-module _ (f : Function) (rule : Rule) (m : Binding) (good : IsRule rule) (is : MatchesInAnyOrder f m.block m.place rule m) where
+module _ {known : Knowledge} (f : Function) (rule : Rule) (m : Binding) (good : IsRule rule) (is : MatchesInAnyOrder known f m.block m.place rule m) where
   -- a statement is bound to one instruction
   bound_place : (j p : ℕ) (s : Statement) → (h : StatementMatches f rule m j s) → slice_get m.statements j ≡ Some (registers.Result m.block p) → h.place ≡ p
   bound_place j p s h at =
@@ -55,6 +57,37 @@ module _ (f : Function) (rule : Rule) (m : Binding) (good : IsRule rule) (is : M
       let (reg, bound, reads) : StandsFor m r.width (arguments.Register (names.Source j)) r.operand = subst (λ (a : Argument). StandsFor m r.width a r.operand) names_it matched.value in
       let same : reg ≡ registers.Result m.block p = same_Some reg (registers.Result m.block p) (sym bound ∙ at) in
       record { i = i; s = s; later = earlier; is_statement = is_statement; matched = h; n = n; r = r; is_read_there = read_there; reads = reads ∙ ap operands.Register same }
+
+  -- what the binding gives for a name before the root is read by an instruction that a statement is bound to
+  pub record NamedRead (x : Operand) : Type 0 where
+    pub i : ℕ
+    pub s : Statement
+    pub is_statement : slice_get rule.source i ≡ Some s
+    pub matched : StatementMatches f rule m i s
+    pub n : ℕ
+    pub r : Read
+    pub is_read_there : IsRead f m.block matched.place n r
+    pub reads : r.operand ≡ x
+
+  given_for : (name : Name) (x a : Operand) (N : ℕ) → operand_for m name ≡ Some x → StandsFor m N (arguments.Register name) a → a ≡ x
+  given_for (names.Input i) x a N bound stands = same_Some a x (sym stands ∙ bound)
+  given_for (names.Source j) x a N bound (reg, at, is_a) = is_a ∙ same_Some (operands.Register reg) x (sym (ap (option_map operands.Register) at) ∙ bound)
+  given_for (names.Target j) x a N bound stands = absurd stands
+
+  read_as : (name : Name) (x : Operand) (q : ℕ) (o : RuleOperand) → slice_get (flat_map (λ (s : Statement). operands_of s.op) rule.source) q ≡ Some o → o.value ≡ arguments.Register name → operand_for m name ≡ Some x → NamedRead x
+  read_as name x q o at_q names_it bound =
+      let (i, s, is_statement, among) = flat_map-from (λ (s : Statement). operands_of s.op) rule.source o (contains_at (flat_map (λ (s : Statement). operands_of s.op) rule.source) q o at_q) in
+      let h = is.statements i s is_statement in
+      let (n, there) = place_in (operands_of s.op) o among in
+      let (r, read_there) = is_read f m.block h.place h.inst s.op h.is_inst h.matches.operation n o there in
+      let matched = h.matches.operands n o r there read_there in
+      let stands : StandsFor m r.width (arguments.Register name) r.operand = subst (λ (a : Argument). StandsFor m r.width a r.operand) names_it matched.value in
+      record { i = i; s = s; is_statement = is_statement; matched = h; n = n; r = r; is_read_there = read_there; reads = given_for name x r.operand r.width bound stands }
+
+  pub named_read : (name : Name) (x : Operand) → IsBeforeRoot rule name → operand_for m name ≡ Some x → NamedRead x
+  named_read (names.Input i) x before bound = let (q, (o, at_q, names_it)) = good.inputs_read i before in read_as (names.Input i) x q o at_q names_it bound
+  named_read (names.Source j) x before bound = let (q, (o, at_q, names_it)) = good.temporaries_read j before in read_as (names.Source j) x q o at_q names_it bound
+  named_read (names.Target j) x before bound = absurd before
 
   -- A property by distance, which the root has at 0, and which passes from an instruction to those that it reads from,
   -- one further, is one of every instruction that a statement is bound to.

@@ -1,5 +1,6 @@
--- A match stays where the instructions that it is bound to are the same.
-use Rattle.draft_steps.proofs.Common.{◌≡◌, ℕ, List, Some, refl, sym, ap, ◌∙◌, Contains, slice_get, IsInst, Read, IsRead, reads_of, IsReached, Function, Inst, Op, Register, Rule, Statement, IsUsedOnce, MatchesInAnyOrder, IsSameOperation, StatementMatches, Binding, reads_at_inst}
+-- A match stays where the instructions that it is bound to are the same, and the same is known of what it names.
+use Rattle.draft_steps.proofs.Common.{◌≡◌, ℕ, List, Some, refl, sym, ap, ◌∙◌, Contains, slice_get, IsInst, Read, IsRead, reads_of, IsReached, Function, Inst, Op, Operand, Register, Rule, Statement, IsUsedOnce, AsksBitsOf, Knowledge, facts_follow, operand_for, MatchesInAnyOrder, IsSameOperation, StatementMatches, Binding, reads_at_inst}
+use Rattle.rule_core.specs.declared.rule.Register.{Register as Name}
 use Rattle.ir_core.specs.declared.instruction.Op.TheVariants as ops
 use Rattle.ir_core.specs.declared.operand.Register.TheVariants as registers
 use Rattle.rule_core.specs.declared.rule.Formula.TheVariants as formulas
@@ -16,7 +17,7 @@ same_reads f f' b k w (rule_ops.Convert cast flags a to) (ops.Convert cast' flag
 same_reads f f' b k w (rule_ops.Freeze a j) (ops.Freeze x) same = refl
 same_reads f f' b k w s op same = absurd same
 
-module _ (f f' : Function) (b k : ℕ) (rule : Rule) (m : Binding) (is : MatchesInAnyOrder f b k rule m)
+module _ (known known' : Knowledge) (f f' : Function) (b k : ℕ) (rule : Rule) (m : Binding) (is : MatchesInAnyOrder known f b k rule m)
     (same : (j p : ℕ) (inst : Inst) → slice_get m.statements j ≡ Some (registers.Result m.block p) → IsInst f m.block p inst → IsInst f' m.block p inst) where
   statement_too : (j : ℕ) (s : Statement) → slice_get rule.source j ≡ Some s → StatementMatches f' rule m j s
   statement_too j s at =
@@ -42,8 +43,9 @@ module _ (f f' : Function) (b k : ℕ) (rule : Rule) (m : Binding) (is : Matches
 
   pub match_too : (IsReached f b → IsReached f' b)
       → ((j : ℕ) (r : Register) → Contains rule.precondition (formulas.HasOneUse j) → slice_get m.statements j ≡ Some r → IsUsedOnce f' r)
-      → MatchesInAnyOrder f' b k rule m
-  match_too reached one_use = record {
+      → ((r : Name) (x : Operand) → AsksBitsOf rule r → operand_for m r ≡ Some x → known b k x ≡ known' b k x)
+      → MatchesInAnyOrder known' f' b k rule m
+  match_too reached one_use as_much = record {
     block = is.block;
     place = is.place;
     reached = reached is.reached;
@@ -56,5 +58,5 @@ module _ (f f' : Function) (b k : ℕ) (rule : Rule) (m : Binding) (is : Matches
     typing = is.typing;
     precondition = is.precondition;
     one_use = one_use;
-    no_facts = is.no_facts;
+    facts = λ formula among. facts_follow rule (known b k) (known' b k) m m (λ a. refl) (λ r x asks at. (x, at, as_much r x asks at)) formula among (is.facts formula among);
   }

@@ -1,6 +1,8 @@
 -- What the proofs of this crate cite of definitions, of other crates and of the libraries, passed on from one place.
 pub use Rattle.std.proofs.Common.{All, AllPairs, Contains, Err, HoldsAt, IfNone, IfOk, IfSome, List, MatchOption, None, Ok, Option, Result, Some, [], ap, arith, drop, get_or, inl, inr, length, option_and_then, option_map, option_to_list, refl, rules, slice_get, slice_set, subst, suc, sym, take, tests, zero, ℕ, ◌++◌, ◌+◌, ◌-◌, ◌<◌, ◌∙◌, ◌∷◌, ◌≡◌, ◌≤◌, ◌⊎◌}
+pub use Rattle.bindings.proofs.Knowing.{known_too}
 pub use Rattle.bindings.proofs.Reading.{same_inst}
+pub use Rattle.bindings.specs.Known.{AskBits, Knowledge, known_by, known_in}
 pub use Rattle.bindings.specs.Laws.{TemporariesStandBefore}
 pub use Rattle.bindings.specs.Match.{MatchesInAnyOrder}
 pub use Rattle.bindings.specs.Matches.{AreMatches, AreMatchesAmong, AreMatchesInAnyOrder, AreMatchesWhere, ComesBefore, IsAt, IsMatchAmong, IsMatchInAnyOrder, MatchesAmong}
@@ -14,6 +16,7 @@ pub use Rattle.ir_core.specs.Reads.{end_of}
 pub use Rattle.ir_core.specs.declared.function.Block.{Block}
 pub use Rattle.ir_core.specs.declared.function.Function.{Function}
 pub use Rattle.ir_core.specs.declared.instruction.Inst.{Inst}
+pub use Rattle.ir_core.specs.declared.operand.Operand.{Operand}
 pub use Rattle.matcher.proofs.OneBinding.{one_in_any_order}
 pub use Rattle.rule_core.proofs.Givens.{Contains-take}
 pub use Rattle.rule_core.proofs.Members.{get-append_left, get_behind}

@@ -1,5 +1,5 @@
 -- The matches of one part of a function, followed by those of the next.
-use Rattle.rule_matches.proofs.Common.{◌≡◌, ◌⊎◌, inl, inr, ℕ, zero, suc, ◌<◌, ◌≤◌, List, [], ◌∷◌, ◌++◌, length, get_or, take, Some, refl, sym, ap, subst, ◌∙◌, arith, All, AllPairs, Contains, slice_get, cases_eq, cases_lt, get_or-take, length-take-le, All-append, All-contains, Contains-append_left, Contains-append_right, Contains-get_or, AllPairs-cons, get_or_from_slice_get, slice_get-get_or, slice_get_within, IsBefore, Function, Rule, Contains-take, Match, MatchesAmong, IsMatchAmong, ComesBefore, AreMatches, AreMatchesAmong, AreMatchesWhere}
+use Rattle.rule_matches.proofs.Common.{◌≡◌, ◌⊎◌, inl, inr, ℕ, zero, suc, ◌<◌, ◌≤◌, List, [], ◌∷◌, ◌++◌, length, get_or, take, Some, refl, sym, ap, subst, ◌∙◌, arith, All, AllPairs, Contains, slice_get, cases_eq, cases_lt, get_or-take, length-take-le, All-append, All-contains, Contains-append_left, Contains-append_right, Contains-get_or, AllPairs-cons, get_or_from_slice_get, slice_get-get_or, slice_get_within, IsBefore, Function, Rule, Contains-take, Match, MatchesAmong, IsMatchAmong, ComesBefore, AreMatches, AreMatchesAmong, AreMatchesWhere, Knowledge}
 
 pub pairs_first : {X : Type 0} (R : X → X → Type 0) (x : X) (xs : List X) → AllPairs R (x ∷ xs) → All (R x) xs
 pairs_first R x xs h k d lt = h 0 (suc k) d (omega arith) (omega arith)
@@ -31,9 +31,9 @@ not_after b k i c l j first later = elim first [
 pub not_both : (m n : Match) → ComesBefore m n → ComesBefore n m → ⊥
 not_both m n = not_after m.binding.block m.binding.place m.rule n.binding.block n.binding.place n.rule
 
-module _ {Before : ℕ → ℕ → Type 0} (rules : List Rule) (f : Function) where
+module _ {Before : ℕ → ℕ → Type 0} {known : Knowledge} (rules : List Rule) (f : Function) where
   -- where no rule matches
-  pub none_where : (P : Match → Type 0) → ((m : Match) → MatchesAmong Before rules f m → ¬ P m) → AreMatchesAmong Before rules f P []
+  pub none_where : (P : Match → Type 0) → ((m : Match) → MatchesAmong Before known rules f m → ¬ P m) → AreMatchesAmong Before known rules f P []
   none_where P never = record {
     each = λ k d lt. absurd (omega arith);
     all = λ m is p. absurd (never m is p);
@@ -41,24 +41,24 @@ module _ {Before : ℕ → ℕ → Type 0} (rules : List Rule) (f : Function) wh
   }
 
   -- where one does
-  pub one_where : (P : Match → Type 0) (m : Match) → MatchesAmong Before rules f m → P m → ((n : Match) → MatchesAmong Before rules f n → P n → m ≡ n) → AreMatchesAmong Before rules f P (m ∷ [])
+  pub one_where : (P : Match → Type 0) (m : Match) → MatchesAmong Before known rules f m → P m → ((n : Match) → MatchesAmong Before known rules f n → P n → m ≡ n) → AreMatchesAmong Before known rules f P (m ∷ [])
   one_where P m is p only = record {
     each = one_each;
     all = λ n is_n p_n. (0, omega arith, only n is_n p_n);
     in_order = λ i j d less within. absurd (omega arith);
   }
     where
-      one_each : All (λ x. MatchesAmong Before rules f x × P x) (m ∷ [])
+      one_each : All (λ x. MatchesAmong Before known rules f x × P x) (m ∷ [])
       one_each zero d lt = (is, p)
       one_each (suc k) d lt = absurd (omega arith)
 
   -- all of one part come before all of the next
-  pub joined : (P Q R : Match → Type 0) (xs ys : List Match) → AreMatchesAmong Before rules f P xs → AreMatchesAmong Before rules f Q ys
+  pub joined : (P Q R : Match → Type 0) (xs ys : List Match) → AreMatchesAmong Before known rules f P xs → AreMatchesAmong Before known rules f Q ys
       → ((m n : Match) → P m → Q n → ComesBefore m n)
-      → ((m : Match) → MatchesAmong Before rules f m → R m → P m ⊎ Q m) → ((m : Match) → P m → R m) → ((m : Match) → Q m → R m)
-      → AreMatchesAmong Before rules f R (xs ++ ys)
+      → ((m : Match) → MatchesAmong Before known rules f m → R m → P m ⊎ Q m) → ((m : Match) → P m → R m) → ((m : Match) → Q m → R m)
+      → AreMatchesAmong Before known rules f R (xs ++ ys)
   joined P Q R xs ys first later before split from_p from_q = record {
-    each = All-append (λ m. MatchesAmong Before rules f m × R m) xs ys
+    each = All-append (λ m. MatchesAmong Before known rules f m × R m) xs ys
         (λ k d lt. let h = first.each k d lt in (h.0, from_p (get_or xs k d) h.1))
         (λ k d lt. let h = later.each k d lt in (h.0, from_q (get_or ys k d) h.1));
     all = λ m is r. elim (split m is r) [
@@ -67,13 +67,13 @@ module _ {Before : ℕ → ℕ → Type 0} (rules : List Rule) (f : Function) wh
     ];
     in_order = pairs_append ComesBefore xs ys first.in_order later.in_order
         (λ m n has_m has_n. before m n
-        (All-contains (λ x. MatchesAmong Before rules f x × P x) xs m first.each has_m).1
-        (All-contains (λ x. MatchesAmong Before rules f x × Q x) ys n later.each has_n).1);
+        (All-contains (λ x. MatchesAmong Before known rules f x × P x) xs m first.each has_m).1
+        (All-contains (λ x. MatchesAmong Before known rules f x × Q x) ys n later.each has_n).1);
   }
 
   -- by another property that the same matches have
-  pub same_where : (P Q : Match → Type 0) (xs : List Match) → AreMatchesAmong Before rules f P xs
-      → ((m : Match) → MatchesAmong Before rules f m → Q m → P m) → ((m : Match) → P m → Q m) → AreMatchesAmong Before rules f Q xs
+  pub same_where : (P Q : Match → Type 0) (xs : List Match) → AreMatchesAmong Before known rules f P xs
+      → ((m : Match) → MatchesAmong Before known rules f m → Q m → P m) → ((m : Match) → P m → Q m) → AreMatchesAmong Before known rules f Q xs
   same_where P Q xs found back on = record {
     each = λ k d lt. let h = found.each k d lt in (h.0, on (get_or xs k d) h.1);
     all = λ m is q. found.all m is (back m is q);
@@ -82,10 +82,10 @@ module _ {Before : ℕ → ℕ → Type 0} (rules : List Rule) (f : Function) wh
 
   -- the matches of one part, and those of the next that come before one of it, are all of both parts that do
   pub joined_before : (P Q R : Match → Type 0) (chosen : Match) (xs ys : List Match) → Q chosen
-      → AreMatchesAmong Before rules f P xs → AreMatchesAmong Before rules f (λ m. Q m × ComesBefore m chosen) ys
+      → AreMatchesAmong Before known rules f P xs → AreMatchesAmong Before known rules f (λ m. Q m × ComesBefore m chosen) ys
       → ((m n : Match) → P m → Q n → ComesBefore m n)
       → ((m : Match) → R m → ComesBefore m chosen → P m ⊎ Q m) → ((m : Match) → P m → R m) → ((m : Match) → Q m → R m)
-      → AreMatchesAmong Before rules f (λ m. R m × ComesBefore m chosen) (xs ++ ys)
+      → AreMatchesAmong Before known rules f (λ m. R m × ComesBefore m chosen) (xs ++ ys)
   joined_before P Q R chosen xs ys here first later before split from_p from_q =
       joined P (λ m. Q m × ComesBefore m chosen) (λ m. R m × ComesBefore m chosen) xs ys first later
       (λ m n p q. before m n p q.0)
@@ -94,7 +94,7 @@ module _ {Before : ℕ → ℕ → Type 0} (rules : List Rule) (f : Function) wh
       (λ m q. (from_q m q.0, q.1))
 
   -- those that come before a match of a list are those in front of it
-  module _ (P : Match → Type 0) (ms : List Match) (i : ℕ) (chosen : Match) (at : slice_get ms i ≡ Some chosen) (found : AreMatchesAmong Before rules f P ms) where
+  module _ (P : Match → Type 0) (ms : List Match) (i : ℕ) (chosen : Match) (at : slice_get ms i ≡ Some chosen) (found : AreMatchesAmong Before known rules f P ms) where
     size : length (take i ms) ≡ i
     size = (let within : i < length ms = slice_get_within ms i chosen at in length-take-le i ms (omega arith))
 
@@ -113,13 +113,13 @@ module _ {Before : ℕ → ℕ → Type 0} (rules : List Rule) (f : Function) wh
           not_both m chosen before (subst (ComesBefore chosen) is (subst (λ (n : Match). ComesBefore n (get_or ms j m)) (get_or_from_slice_get ms i chosen m at) after))
     ]
 
-    pub before_chosen : AreMatchesAmong Before rules f (λ m. P m × ComesBefore m chosen) (take i ms)
+    pub before_chosen : AreMatchesAmong Before known rules f (λ m. P m × ComesBefore m chosen) (take i ms)
     before_chosen = record {
       each = λ k d lt.
           let early : k < i = omega (arith, lt, size) in
           let within : i < length ms = slice_get_within ms i chosen at in
           let h = found.each k d (omega (arith, early, within)) in
-          subst (λ (m : Match). MatchesAmong Before rules f m × (P m × ComesBefore m chosen)) (sym (get_or-take i ms k d early)) (h.0, (h.1, earlier k d early));
+          subst (λ (m : Match). MatchesAmong Before known rules f m × (P m × ComesBefore m chosen)) (sym (get_or-take i ms k d early)) (h.0, (h.1, earlier k d early));
       all = λ m is p.
           let (j, within, at_j) = found.all m is p.0 in
           elim (cases_lt j i) [

@@ -1,5 +1,5 @@
 -- A rule matches only at instructions of its root's kind.
-use Rattle.rule_matches.proofs.Common.{◌≡◌, ℕ, suc, ◌-◌, ◌<◌, List, Option, Some, length, refl, sym, ap, subst, ◌∙◌, arith, slice_get_within, slice_get, option_and_then, option_map, unwrap_or, end_of, Block, Function, Inst, IsInst, Rule, Statement, IsSameOperation, StatementMatches, Match, RootKind, Binary, Compare, Unary, Select, Convert, Freeze, AreReady, MatchesAmong, kind_of_statement, kind_of_inst, kind_of_root, HasRootKind}
+use Rattle.rule_matches.proofs.Common.{◌≡◌, ℕ, suc, ◌-◌, ◌<◌, List, Option, Some, length, refl, sym, ap, subst, ◌∙◌, arith, slice_get_within, slice_get, option_and_then, option_map, unwrap_or, end_of, Block, Function, Inst, IsInst, Rule, Statement, IsSameOperation, StatementMatches, Match, RootKind, Binary, Compare, Unary, Select, Convert, Freeze, AreReady, Knowledge, MatchesAmong, kind_of_statement, kind_of_inst, kind_of_root, HasRootKind}
 use Rattle.ir_core.specs.declared.instruction.Op.{Op as InstOp}
 use Rattle.ir_core.specs.declared.instruction.Op.TheVariants as ops
 use Rattle.rule_matches.proofs.Places.{some_at}
@@ -24,7 +24,7 @@ pub record RootStands (rules : List Rule) (f : Function) (m : Match) : Type 0 wh
   pub of_inst : kind_of_inst inst.op ≡ Some kind
   pub of_rule : HasRootKind rules kind m.rule
 
-pub root_stands : {Before : ℕ → ℕ → Type 0} (rules : List Rule) (f : Function) (m : Match) → AreReady rules → MatchesAmong Before rules f m → RootStands rules f m
+pub root_stands : {Before : ℕ → ℕ → Type 0} {known : Knowledge} (rules : List Rule) (f : Function) (m : Match) → AreReady rules → MatchesAmong Before known rules f m → RootStands rules f m
 root_stands rules f m ready is = by (length is.rule.source - 1) (let some : 0 < length is.rule.source = (ready m.rule is.rule is.is_rule).checks.source_root in omega (arith, some)) refl
   where
     by : (j : ℕ) → suc j ≡ length is.rule.source → j ≡ length is.rule.source - 1 → RootStands rules f m

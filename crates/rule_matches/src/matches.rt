@@ -1,10 +1,12 @@
 //! The matches of rules at the instructions of a function.
 
-ghost use Rattle.std.specs.Prelude.{◌≡◌, ◌<◌, ◌^◌, ◌++◌, length, option_to_list, All, IfOk, OnOk};
+ghost use Rattle.std.specs.Prelude.{◌≡◌, ◌<◌, ◌≤◌, ◌^◌, ◌++◌, length, option_to_list, All, IfOk, OnOk};
 ghost use Rattle.ir_core.specs.Blocks.{HasInst};
 ghost use Rattle.ir_core.specs.Checks.{IsInst, MeetsChecks};
 ghost use Rattle.bindings.specs.Facts.{AreFactsOf};
 ghost use Rattle.rule_matches.specs.Found.{IsOf};
+ghost use Rattle.ir_core.specs.declared.operand.Operand.{Operand as Named};
+ghost use Rattle.bindings.specs.Known.{AskBits, known_by, known_in};
 ghost use Rattle.bindings.specs.Ready.{AreReady};
 ghost use Rattle.bindings.specs.Matches.{AreMatchesInAnyOrder, AreMatchesWhere, IsAt};
 ghost use Rattle.rule_matches.specs.Roots.{AreByRoot};
@@ -12,6 +14,7 @@ ghost use Rattle.rule_matches.specs.Roots.{AreByRoot};
 use crate::roots::RulesByRoot;
 use bindings::{FunctionFacts, Match, temporaries_stand_before_roots};
 use ir_core::{Function, Inst};
+use known_bits::Facts;
 use lists::List;
 use matcher::match_in;
 use rule_core::Rule;
@@ -24,13 +27,15 @@ pub struct Rules<'a> {
     pub by_root: &'a RulesByRoot,
 }
 
-/// All matches of the rules at an instruction, in the order of the rules.
+/// All matches of the rules at an instruction, in the order of the rules. What is known of the results before it in its
+/// block is an argument, which is asked for only where a rule says something of bits.
 ///
 /// Only rules whose root is of the instruction's kind are tried. The only error is want of memory.
 pub fn matches_at(
     alloc: Global,
     f: &Function,
     facts: &FunctionFacts,
+    known: &Facts,
     rules: &Rules<'_>,
     block: u32,
     place: u32,
@@ -38,35 +43,40 @@ pub fn matches_at(
     requires checks { MeetsChecks f.now }
     requires insts { All (λ b. length b.insts < 2 ^ 32) f.now.blocks }
     requires facts { AreFactsOf f.now facts.now }
+    requires few { All (λ bits. length bits ≤ 64) known.now.results }
     requires ready { AreReady rules.now.all.now }
     requires by_root { AreByRoot rules.now.all.now rules.now.by_root.now }
     requires place { HasInst f.now block place }
+    requires known { AskBits rules.now.all.now → (x : Named) → known_by known.now block place x ≡ known_in f.now block place x }
     ensures { IfOk result (AreMatchesWhere rules.now.all.now f.now (IsAt block place)) }
 {
     temporaries_stand_before_roots();
-    matches_in_any_order(alloc, f, facts, rules, block, place)
+    matches_in_any_order(alloc, f, facts, known, rules, block, place)
 }
 
-/// The same without regard to the order of instructions in the block, as in the arena of a draft.
+/// The same without regard to the order of instructions in the block, as in the arena of a draft, and by what is known of
+/// its results, whatever that is.
 pub fn matches_in_any_order(
     alloc: Global,
     f: &Function,
     facts: &FunctionFacts,
+    known: &Facts,
     rules: &Rules<'_>,
     block: u32,
     place: u32,
 ) -> Result<List<Match>, AllocError>
     requires insts { All (λ b. length b.insts < 2 ^ 32) f.now.blocks }
     requires facts { AreFactsOf f.now facts.now }
+    requires few { All (λ bits. length bits ≤ 64) known.now.results }
     requires ready { AreReady rules.now.all.now }
     requires by_root { AreByRoot rules.now.all.now rules.now.by_root.now }
     requires place { HasInst f.now block place }
-    ensures { IfOk result (AreMatchesInAnyOrder rules.now.all.now f.now (IsAt block place)) }
+    ensures { IfOk result (AreMatchesInAnyOrder (known_by known.now) rules.now.all.now f.now (IsAt block place)) }
 {
     let inst = inst_at(f, block, place);
     let mut found = List::new(alloc);
     for rule in rules.by_root.at(&inst.op) {
-        let matched = match_of(alloc, f, facts, rules.all, block, place, *rule)?;
+        let matched = match_of(alloc, f, facts, known, rules.all, block, place, *rule)?;
         push_if_any(&mut found, matched)?;
     }
     Ok(found)
@@ -86,6 +96,7 @@ fn match_of(
     alloc: Global,
     f: &Function,
     facts: &FunctionFacts,
+    known: &Facts,
     rules: &[Rule],
     block: u32,
     place: u32,
@@ -93,13 +104,14 @@ fn match_of(
 ) -> Result<Option<Match>, AllocError>
     requires insts { All (λ b. length b.insts < 2 ^ 32) f.now.blocks }
     requires facts { AreFactsOf f.now facts.now }
+    requires few { All (λ bits. length bits ≤ 64) known.now.results }
     requires ready { AreReady rules.now }
     requires place { HasInst f.now block place }
     requires rule { rule < length rules.now }
-    ensures { IfOk result (λ matched. AreMatchesInAnyOrder rules.now f.now (IsOf block place rule) (option_to_list matched)) }
+    ensures { IfOk result (λ matched. AreMatchesInAnyOrder (known_by known.now) rules.now f.now (IsOf block place rule) (option_to_list matched)) }
 {
     let tried = &rules[rule as usize];
-    let Some(binding) = match_in(alloc, f, facts, block, place, tried)? else {
+    let Some(binding) = match_in(alloc, f, facts, known, block, place, tried)? else {
         return Ok(None);
     };
     Ok(Some(Match { rule, binding }))

@@ -6,6 +6,9 @@ use Rattle.asked_verdicts.proofs.searching.any_admitted.Goals as goal
 pub loop-block-init : goal.loop-block-init
 loop-block-init c = no_block_asked c.args.rules.now.all.now c.args.conflicts c.args.f.now c.args.verdicts.now
 
+pub any_in_block-requires-clause-asks : goal.any_in_block-requires-clause-asks
+any_in_block-requires-clause-asks c = c.ask_bits-asks.ensures.1
+
 pub any_in_block-requires-clause-verdicts : goal.any_in_block-requires-clause-verdicts
 any_in_block-requires-clause-verdicts c =
     still_verdicts c.args.rules.now.all.now c.args.conflicts (map pair_of c.loop-block.invariant.matches) c.args.verdicts.now c.loop-block.verdicts c.requires.verdicts c.loop-block.invariant.asks

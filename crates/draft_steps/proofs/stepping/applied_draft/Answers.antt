@@ -1,4 +1,4 @@
-use Rattle.draft_steps.proofs.Common.{IsSettled, IsWhole, IsRewritten, arena_place, function_of, placed_binding}
+use Rattle.draft_steps.proofs.Common.{IsWhole, arena_place}
 use Rattle.draft_steps.proofs.OneStep.{bound, good_then, is_rewritten, readable, result_readable, root_inst, root_is, root_stands}
 use Rattle.draft_steps.proofs.stepping.applied_draft.Goals as goal
 

@@ -1,4 +1,4 @@
-use Rattle.rule_matches.proofs.Common.{length, refl, slice_get_read, IsReady}
+use Rattle.rule_matches.proofs.Common.{length, refl, slice_get_read, IsReady, known_by}
 use Rattle.rule_matches.proofs.Matching.{no_match, one_match}
 use Rattle.rule_matches.proofs.matches.match_of.Goals as goal
 
@@ -23,11 +23,11 @@ match_in-requires-clause-typed c =
 pub returns-in_default : goal.returns-in_default
 returns-in_default c =
     let at = slice_get_read c.args.rules.now (length c.args.rules.now) c.args.rule c.index-rules-rule.result refl c.requires.rule c.index-rules-rule.is in
-    no_match c.args.rules.now c.args.f.now c.args.block c.args.place c.args.rule c.index-rules-rule.result at c.requires.ready
+    no_match (known_by c.args.known.now) c.args.rules.now c.args.f.now c.args.block c.args.place c.args.rule c.index-rules-rule.result at c.requires.ready
     (rw c.in_default.is at c.in_ok-binding.ensures.none)
 
 pub returns : goal.returns
 returns c =
     let at = slice_get_read c.args.rules.now (length c.args.rules.now) c.args.rule c.index-rules-rule.result refl c.requires.rule c.index-rules-rule.is in
-    one_match c.args.rules.now c.args.f.now c.args.block c.args.place c.args.rule c.index-rules-rule.result at c.requires.ready
+    one_match (known_by c.args.known.now) c.args.rules.now c.args.f.now c.args.block c.args.place c.args.rule c.index-rules-rule.result at c.requires.ready
     c.in-Some.binding (rw c.in-Some.is at c.in_ok-binding.ensures.ok)
