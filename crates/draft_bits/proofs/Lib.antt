@@ -1,0 +1,11 @@
+pub mod Common
+pub mod Renaming
+pub mod Positions
+pub mod Made
+pub mod Entries
+pub mod Updates
+pub mod Turns
+pub mod Taking
+pub mod Beginning
+pub mod Readers
+pub mod Untouched
