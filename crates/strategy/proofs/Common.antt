@@ -1,7 +1,9 @@
 -- What the proofs of this crate cite of definitions, of other crates and of the libraries, passed on from one place.
 pub use Rattle.std.proofs.Common.{All, Any, Bool, Contains, List, MatchBool, None, OnOk, Option, Some, [], ap, append-nil, append_assoc, arith, false, get_or, if◌then◌else◌, inl, inr, length, map, not, option_and_then, option_map, refl, slice_get, subst, suc, sym, take, true, zero, ℕ, ◌&&◌, ◌*◌, ◌++◌, ◌+◌, ◌-◌, ◌<◌, ◌==◌, ◌^◌, ◌↔◌, ◌∙◌, ◌∷◌, ◌≡◌, ◌≤◌, ◌⊎◌}
+pub use Rattle.bindings.proofs.Reading.{reads_at_inst}
 pub use Rattle.bindings.specs.Facts.{AreFactsOf}
 pub use Rattle.bindings.specs.Match.{IsMatch}
+pub use Rattle.bindings.specs.Known.{AskBits, AsksBitsOf, Knowledge, known_by}
 pub use Rattle.bindings.specs.Matches.{AreMatches, AreMatchesInAnyOrder, AreMatchesWhere, ComesBefore, IsAt, IsMatchAmong, IsMatchInAnyOrder}
 pub use Rattle.bindings.specs.Ready.{AreReady}
 pub use Rattle.bindings.specs.declared.binding.Binding.{Binding}
@@ -11,15 +13,20 @@ pub use Rattle.draft.proofs.Wholeness.{counted_insts, stands_there}
 pub use Rattle.draft.specs.Drafts.{AreTouched, HasRoomFor, Reaches, Stands, StandsBefore, arena_of, blocks_of, function_of, numbers_in, numbers_of, orders_of, placed, placed_binding}
 pub use Rattle.draft.specs.Whole.{IsSettled}
 pub use Rattle.draft.specs.declared.draft.Draft.{Draft}
+pub use Rattle.draft_bits.proofs.Untouched.{still_known}
+pub use Rattle.draft_bits.specs.DraftBits.{AreBitsBefore, AreBitsOf, HasSameBits, facts_at, results_at}
+pub use Rattle.draft_bits.specs.Laws.{DraftBitsAreKnownBits}
+pub use Rattle.draft_bits.specs.declared.bits.DraftBits.{DraftBits}
 pub use Rattle.draft_steps.proofs.Arranged.{is_arranged}
 pub use Rattle.draft_steps.proofs.Places.{inst_on, number_at, reached_back, reached_on}
 pub use Rattle.draft_steps.proofs.Rows.{number_there}
-pub use Rattle.draft_steps.proofs.SameDrafts.{same_numbers}
+pub use Rattle.draft_steps.proofs.SameDrafts.{same_numbers, stood}
 pub use Rattle.draft_steps.proofs.Unchanged.{still_clean, still_settled}
-pub use Rattle.draft_steps.specs.Arranged.{AreArranged, arranged, row_of}
+pub use Rattle.draft_steps.specs.Arranged.{AreArranged, KnowsTheFunction, arranged, row_of}
 pub use Rattle.draft_steps.specs.DeadCode.{AllNeeded}
 pub use Rattle.draft_steps.specs.DraftWorklists.{ComesNext, IsWorklistOf, members_of, size_of}
-pub use Rattle.draft_steps.specs.MatchLaws.{AreSourcesWithin, MatchesOfTheArena, MatchesOfTheUntouched, placed_match}
+pub use Rattle.draft_steps.specs.MatchLaws.{AreSourcesWithin, KnowsTheUntouched, MatchesOfTheArena, MatchesOfTheUntouched, placed_match}
+pub use Rattle.draft_steps.specs.Walks.{IsSameDraft}
 pub use Rattle.fold_branch.proofs.Again.{all_stay, folded_is_folded, none_chosen}
 pub use Rattle.fold_branch.proofs.FoldedBlocks.{length-folded_blocks}
 pub use Rattle.fold_branch.proofs.Staying.{staying_reached}
@@ -27,9 +34,9 @@ pub use Rattle.fold_branch.specs.Choices.{chosen, decided, decided_block, decide
 pub use Rattle.fold_branch.specs.Folded.{AreReached, IsFolded, choices_of, folded_as, folded_block, folded_blocks, folded_function, folded_inst, folded_op, staying}
 pub use Rattle.fold_branch.specs.Laws.{CleanedFunctionsStayFolded}
 pub use Rattle.ir_core.specs.Blocks.{HasInst, IsBlock, Names, targets_of}
-pub use Rattle.ir_core.specs.Checks.{IsKnown, MeetsChecks, ModuleMeetsChecks}
+pub use Rattle.ir_core.specs.Checks.{IsInst, IsKnown, IsPhi, MeetsChecks, ModuleMeetsChecks}
 pub use Rattle.ir_core.specs.Names.{Name}
-pub use Rattle.ir_core.specs.Reads.{end_of}
+pub use Rattle.ir_core.specs.Reads.{Read, end_of, reads_of}
 pub use Rattle.ir_core.specs.Run.{branch_target, switch_target}
 pub use Rattle.ir_core.specs.Walks.{IsReached}
 pub use Rattle.ir_core.specs.declared.function.Block.{Block}
@@ -42,6 +49,7 @@ pub use Rattle.ir_core.specs.declared.module.Module.{Module}
 pub use Rattle.ir_core.specs.declared.operand.Operand.{Operand}
 pub use Rattle.ir_core.specs.declared.operand.Register.{Register}
 pub use Rattle.ir_core.specs.declared.terminator.Terminator.{Terminator}
+pub use Rattle.ir_meaning.proofs.Equations.{one_inst}
 pub use Rattle.ir_meaning.proofs.Pieces.{contains_at, first_in, later_in, some_at}
 pub use Rattle.ir_meaning.specs.HistoryLaws.{NumbersFit}
 pub use Rattle.needed.proofs.Counting.{IsKept, block_at, block_back, kept_at, kept_back}
@@ -63,12 +71,13 @@ pub use Rattle.rule_core.proofs.Turns.{at_place}
 pub use Rattle.rule_core.specs.Checks.{IsRule}
 pub use Rattle.rule_core.specs.Terms.{in_turn}
 pub use Rattle.rule_core.specs.Valid.{IsValid}
+pub use Rattle.rule_core.specs.declared.rule.Register.{Register as RuleRegister}
 pub use Rattle.rule_core.specs.declared.rule.Rule.{Rule}
 pub use Rattle.rule_core.specs.declared.rule.Statement.{Statement}
 pub use Rattle.rule_matches.proofs.Joining.{everywhere, none_where, same_where}
 pub use Rattle.rule_matches.proofs.Rooting.{before_end}
 pub use Rattle.rule_matches.specs.declared.matches.Rules.{Rules}
-pub use Rattle.rule_typing.proofs.Among.{fails, holds}
+pub use Rattle.rule_typing.proofs.Among.{SoFar, fails, holds, one_further}
 pub use Rattle.rule_typing.proofs.Images.{Contains-map, from_map, get-map, map-map}
 pub use Rattle.rule_typing.specs.Classes.{IsClassified}
 pub use Rattle.rule_typing.specs.Faults.{HasNoFault}
@@ -81,7 +90,7 @@ pub use Rattle.std.specs.Option.{option_map_or}
 pub use Rattle.strategy.specs.Asking.{MayAsk}
 pub use Rattle.strategy.specs.Folding.{GivesNoNumber, HasNothingToFold, IsPutAsNoNumber, IsRewrittenAt, KeepsChoices, PutsNoNumber}
 pub use Rattle.strategy.specs.Entries.{EntriesAreReady, EntryIsReady, OptimisesEntries, OptimisesEntry}
-pub use Rattle.strategy.specs.Frontiers.{AreTurnedDownAt, AreTurnedDownBut, AsksAt, IsFrontier, IsSteppedAt, LooksAt, Nowhere, PlaceOf, SearchesTo}
+pub use Rattle.strategy.specs.Frontiers.{AreTurnedDownAt, AreTurnedDownBut, AsksAt, HasBitsFor, IsFrontier, IsSteppedAt, LooksAt, Nowhere, PlaceOf, SearchesTo}
 pub use Rattle.strategy.specs.Searches.{OptimisesFunction, OptimisesTidied, StepsOrEnds}
 pub use Rattle.strategy.specs.declared.module.Counts.{Counts}
 pub use Rattle.strategy_core.proofs.Numbers.{cleaned_numbers_fit, folded_numbers_fit}

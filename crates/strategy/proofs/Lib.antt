@@ -7,6 +7,7 @@ pub mod Advancing
 pub mod Searching
 pub mod Cleanness
 pub mod Reaching
+pub mod KeptBits
 pub mod Requeueing
 pub mod Choosing
 pub mod StayingFolded

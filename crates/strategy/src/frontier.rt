@@ -6,7 +6,10 @@ ghost use Rattle.ir_core.specs.Blocks.{HasInst};
 ghost use Rattle.ir_core.specs.Checks.{MeetsChecks};
 ghost use Rattle.ir_meaning.specs.HistoryLaws.{NumbersFit};
 ghost use Rattle.verdict_core.specs.declared.verdicts.Row.{Row as VerdictRow};
+ghost use Rattle.rule_core.specs.declared.rule.Register.{Register as Named};
+ghost use Rattle.bindings.specs.Known.{AsksBitsOf, known_by};
 ghost use Rattle.bindings.specs.Matches.{IsMatchAmong};
+ghost use Rattle.draft_bits.specs.DraftBits.{HasFewBits};
 ghost use Rattle.bindings.specs.Ready.{AreReady};
 ghost use Rattle.draft_steps.specs.DeadCode.{AllNeeded, HasNoDeadCode};
 ghost use Rattle.draft.specs.Drafts.{AreTouched, HasRoomFor, arena_of, function_of, orders_of};
@@ -14,23 +17,25 @@ ghost use Rattle.draft.specs.KeptOrders.{KeepsOrders};
 ghost use Rattle.places.specs.Orders.{none};
 ghost use Rattle.draft_steps.specs.DraftWorklists.{IsWorklistOf, members_of};
 ghost use Rattle.readers.specs.Readers.{IsPlaceIn};
-ghost use Rattle.draft.specs.Whole.{IsSettled};
+ghost use Rattle.draft.specs.Whole.{IsSettled, IsWhole};
 ghost use Rattle.draft_steps.specs.MatchLaws.{AreSourcesWithin, placed_match};
 ghost use Rattle.asked_verdicts.specs.Asks.{AsksAll, IsAnywhere};
 ghost use Rattle.strategy_core.specs.Countable.{IsCountable};
 ghost use Rattle.strategy.specs.Asking.{MayAsk};
 ghost use Rattle.strategy.specs.Folding.{HasNothingToFold};
-ghost use Rattle.strategy.specs.Frontiers.{AreTurnedDownBut, AsksAt, IsFrontier, IsSteppedAt, LooksAt, Nowhere, PlaceOf, SearchesTo};
+ghost use Rattle.strategy.specs.Frontiers.{AreTurnedDownBut, AsksAt, HasBitsFor, IsFrontier, IsSteppedAt, LooksAt, Nowhere, PlaceOf, SearchesTo};
 ghost use Rattle.strategy.specs.Searches.{OptimisesTidied, OptimisesFunction, StepsOrEnds};
 
 use crate::folding::{may_choose, rewritten_at};
 use crate::steps::{Options, Turns, tidy_checked};
 use asked_verdicts::{Verdicts, any_admitted, first_admitted};
-use bindings::Match;
+use bindings::{Match, ask_bits, asks_bits};
 use draft::Draft;
+use draft_bits::{DraftBits, draft_bits_are_known_bits, update};
 use draft_steps::{DraftWorklist, matches_of_the_arena, matches_of_the_untouched, orders_are_kept};
 use fold_branch::cleaning_keeps_functions_folded;
 use ir_core::Function;
+use known_bits::Facts;
 use needed::{every_cleaned_function_refines_the_old, every_cleaned_number_was_there};
 use places::Place;
 use rewriter::rewritten_functions_meet_checks;
@@ -42,16 +47,18 @@ use std::alloc::{AllocError, Global};
 #[derive(Drop)]
 pub(crate) struct Frontier {
     draft: Draft,
+    /// What is known of the bits of its results; nothing where no rule asks for them.
+    bits: DraftBits,
     /// The worklist: at every other place all matches are known to be turned down.
     worklist: DraftWorklist,
-    /// The most steps from a root to an operand of a match, over all rules.
+    /// The most steps from a root to an instruction on which a match stands, over all rules.
     depth: usize,
 }
 
 /// Tidies a function, and rewrites and tidies it, at most as often as the steps say.
 ///
-/// A search looks at the places on the worklist only. So a step takes as long as what it changes and the users of that,
-/// as far as a match may reach.
+/// A search looks at the places on the worklist only. So a step takes as long as what it changes, the bits that are
+/// known of results among it, and the users of that, as far as a match may reach.
 pub(crate) fn optimise_function(
     alloc: Global,
     f: Function,
@@ -170,6 +177,7 @@ impl Frontier {
     {
         let draft = Draft::of(alloc, f)?;
         Ok(Frontier {
+            bits: bits_for(alloc, rules, &draft)?,
             worklist: DraftWorklist::all(alloc, &draft)?,
             depth: depth_of(rules),
             draft,
@@ -177,17 +185,42 @@ impl Frontier {
     }
 }
 
-/// The most steps from a root to an operand of a match: one less than the statements of the longest source.
+/// What is known of the bits of a new draft's results, where a rule asks for it.
+fn bits_for(alloc: Global, rules: &[Rule], draft: &Draft) -> Result<DraftBits, AllocError>
+    requires whole { IsWhole draft.now }
+    requires checks { MeetsChecks (arena_of draft.now) }
+    ensures bits { IfOk result (HasBitsFor rules.now draft.now) }
+    ensures few { IfOk result HasFewBits }
+{
+    if !ask_bits(rules) {
+        return Ok(DraftBits::none(alloc));
+    }
+    let bits = DraftBits::of(alloc, draft)?;
+    Ok(bits)
+}
+
+/// The most steps from a root to an instruction on which a match stands: to that of an operand, one less than the
+/// statements of the longest source, and one further where a rule asks for the bits of what it names.
 fn depth_of(rules: &[Rule]) -> usize
     ensures { AreSourcesWithin result rules.now }
 {
-    let mut depth = 0;
+    let mut depth: usize = 0;
     for rule in rules {
-        if rule.source.len() > depth + 1 {
-            depth = rule.source.len() - 1;
-        }
+        depth = depth.max(depth_in(rule));
     }
     depth
+}
+
+/// The same of one rule.
+fn depth_in(rule: &Rule) -> usize
+    ensures source { length rule.now.source ≤ suc result }
+    ensures bits { (name : Named) → AsksBitsOf rule.now name → length rule.now.source ≤ result }
+{
+    let count = rule.source.len();
+    if asks_bits(rule) {
+        return count;
+    }
+    count.saturating_sub(1)
 }
 
 /// Rewrites the function at its first admitted match, and tidies it. The answer is false where there is none; then the
@@ -218,6 +251,7 @@ fn step(
     let found = next_admitted(
         alloc,
         &frontier.draft,
+        &frontier.bits,
         &mut frontier.worklist,
         rules,
         verdicts,
@@ -237,22 +271,34 @@ fn step(
 fn next_admitted(
     alloc: Global,
     draft: &Draft,
+    bits: &DraftBits,
     worklist: &mut DraftWorklist,
     rules: &Rules<'_>,
     verdicts: &mut Verdicts,
     conflicts: u32,
 ) -> Result<Option<Match>, AllocError>
     requires settled { IsSettled draft.now }
+    requires bits { HasBitsFor rules.now.all.now draft.now bits.now }
+    requires few { HasFewBits bits.now }
     requires worklist { IsWorklistOf draft.now worklist.old }
-    requires turned_down { AreTurnedDownBut rules.now.all.now verdicts.old.table Nowhere draft.now (members_of worklist.old) }
+    requires turned_down { AreTurnedDownBut rules.now.all.now verdicts.old.table Nowhere draft.now bits.now (members_of worklist.old) }
     requires checks { MeetsChecks (function_of draft.now) }
     requires asks { MayAsk rules.now conflicts verdicts.old }
     ensures worklist { OnOk result (IsWorklistOf draft.now worklist.new) }
-    ensures found { IfOk result (SearchesTo rules.now.all.now conflicts draft.now (members_of worklist.new) verdicts.old verdicts.new) }
+    ensures found { IfOk result (SearchesTo rules.now.all.now conflicts draft.now bits.now (members_of worklist.new) verdicts.old verdicts.new) }
 {
     matches_of_the_arena();
+    draft_bits_are_known_bits();
     while let Some(place) = worklist.take_first(draft) {
-        let found = look_at(alloc, draft, rules, place, verdicts, conflicts)?;
+        let found = look_at(
+            alloc,
+            draft,
+            bits.at(place.block),
+            rules,
+            place,
+            verdicts,
+            conflicts,
+        )?;
         if let Some(chosen) = found {
             return Ok(Some(chosen));
         }
@@ -264,6 +310,7 @@ fn next_admitted(
 fn look_at(
     alloc: Global,
     draft: &Draft,
+    known: &Facts,
     rules: &Rules<'_>,
     place: Place,
     verdicts: &mut Verdicts,
@@ -271,13 +318,14 @@ fn look_at(
 ) -> Result<Option<Match>, AllocError>
     requires settled { IsSettled draft.now }
     requires place { HasInst (arena_of draft.now) place.block place.number }
+    requires few { All (λ word. length word ≤ 64) known.now.results }
     requires asks { MayAsk rules.now conflicts verdicts.old }
-    ensures { IfOk result (LooksAt rules.now.all.now conflicts draft.now place verdicts.old verdicts.new) }
+    ensures { IfOk result (LooksAt rules.now.all.now conflicts draft.now (known_by known.now) place verdicts.old verdicts.new) }
 {
     if !draft.stands(place) {
         return Ok(None);
     }
-    let found = admitted_at(alloc, draft, rules, place, verdicts, conflicts)?;
+    let found = admitted_at(alloc, draft, known, rules, place, verdicts, conflicts)?;
     Ok(found)
 }
 
@@ -286,6 +334,7 @@ fn look_at(
 fn admitted_at(
     alloc: Global,
     draft: &Draft,
+    known: &Facts,
     rules: &Rules<'_>,
     place: Place,
     verdicts: &mut Verdicts,
@@ -293,13 +342,15 @@ fn admitted_at(
 ) -> Result<Option<Match>, AllocError>
     requires settled { IsSettled draft.now }
     requires place { HasInst (arena_of draft.now) place.block place.number }
+    requires few { All (λ word. length word ≤ 64) known.now.results }
     requires asks { MayAsk rules.now conflicts verdicts.old }
-    ensures { IfOk result (AsksAt rules.now.all.now conflicts (arena_of draft.now) place.block place.number verdicts.old verdicts.new) }
+    ensures { IfOk result (AsksAt rules.now.all.now conflicts (known_by known.now) (arena_of draft.now) place.block place.number verdicts.old verdicts.new) }
 {
     let found = matches_in_any_order(
         alloc,
         draft.arena(),
         draft.facts(),
+        known,
         rules,
         place.block,
         place.number,
@@ -325,6 +376,8 @@ fn rewrite_at(
     requires clean { HasNoDeadCode frontier.draft }
     requires worklist { IsWorklistOf frontier.draft frontier.worklist }
     requires depth { AreSourcesWithin frontier.depth rules.now }
+    requires bits { HasBitsFor rules.now frontier.draft frontier.bits }
+    requires few { HasFewBits frontier.bits }
     requires matches { IsMatchAmong rules.now (function_of frontier.draft) (placed_match frontier.draft chosen.now) }
     requires checks { MeetsChecks (function_of frontier.draft) }
     requires numbers { NumbersFit (function_of frontier.draft) }
@@ -334,7 +387,7 @@ fn rewrite_at(
     ensures stepped { IfOk result (λ made. IsSteppedAt folding rules.now frontier.draft made.draft chosen.now) }
 
     // At places that are not on the new worklist matches stay turned down, whatever the table is.
-    ensures frontier { IfOk result (λ made. (table : Seq VerdictRow) → AreTurnedDownBut rules.now table (PlaceOf chosen.now) frontier.draft (members_of frontier.worklist)
+    ensures frontier { IfOk result (λ made. (table : Seq VerdictRow) → AreTurnedDownBut rules.now table (PlaceOf chosen.now) frontier.draft frontier.bits (members_of frontier.worklist)
         → IsFrontier rules.now table made) }
     ensures checks { IfOk result (λ made. MeetsChecks (function_of made.draft)) }
     ensures numbers { IfOk result (λ made. NumbersFit (function_of made.draft)) }
@@ -367,6 +420,8 @@ fn rewrite_and_fold(
     requires clean { HasNoDeadCode frontier.draft }
     requires worklist { IsWorklistOf frontier.draft frontier.worklist }
     requires depth { AreSourcesWithin frontier.depth rules.now }
+    requires bits { HasBitsFor rules.now frontier.draft frontier.bits }
+    requires few { HasFewBits frontier.bits }
     requires matches { IsMatchAmong rules.now (function_of frontier.draft) (placed_match frontier.draft chosen.now) }
     requires checks { MeetsChecks (function_of frontier.draft) }
     requires numbers { NumbersFit (function_of frontier.draft) }
@@ -376,7 +431,7 @@ fn rewrite_and_fold(
     ensures stepped { IfOk result (λ made. IsSteppedAt true rules.now frontier.draft made.draft chosen.now) }
 
     // At places that are not on the new worklist matches stay turned down, whatever the table is.
-    ensures frontier { IfOk result (λ made. (table : Seq VerdictRow) → AreTurnedDownBut rules.now table (PlaceOf chosen.now) frontier.draft (members_of frontier.worklist)
+    ensures frontier { IfOk result (λ made. (table : Seq VerdictRow) → AreTurnedDownBut rules.now table (PlaceOf chosen.now) frontier.draft frontier.bits (members_of frontier.worklist)
         → IsFrontier rules.now table made) }
     ensures checks { IfOk result (λ made. MeetsChecks (function_of made.draft)) }
     ensures numbers { IfOk result (λ made. NumbersFit (function_of made.draft)) }
@@ -420,8 +475,8 @@ fn begin_anew(
     Ok(made)
 }
 
-/// Rewrites the function at a match, and cleans it. The places that it touched, and the users from which a match may reach them, are
-/// put on the worklist.
+/// Rewrites the function at a match, and cleans it. The places that it touched, those at which other bits are known,
+/// and the users from which a match may reach them, are put on the worklist.
 fn rewrite_and_clean(
     alloc: Global,
     frontier: Frontier,
@@ -433,6 +488,8 @@ fn rewrite_and_clean(
     requires clean { HasNoDeadCode frontier.draft }
     requires worklist { IsWorklistOf frontier.draft frontier.worklist }
     requires depth { AreSourcesWithin frontier.depth rules.now }
+    requires bits { HasBitsFor rules.now frontier.draft frontier.bits }
+    requires few { HasFewBits frontier.bits }
     requires matches { IsMatchAmong rules.now (function_of frontier.draft) (placed_match frontier.draft chosen.now) }
     requires checks { MeetsChecks (function_of frontier.draft) }
     requires numbers { NumbersFit (function_of frontier.draft) }
@@ -440,7 +497,7 @@ fn rewrite_and_clean(
     ensures stepped { IfOk result (λ made. IsSteppedAt false rules.now frontier.draft made.draft chosen.now) }
 
     // At places that are not on the new worklist matches stay turned down, whatever the table is.
-    ensures frontier { IfOk result (λ made. (table : Seq VerdictRow) → AreTurnedDownBut rules.now table (PlaceOf chosen.now) frontier.draft (members_of frontier.worklist)
+    ensures frontier { IfOk result (λ made. (table : Seq VerdictRow) → AreTurnedDownBut rules.now table (PlaceOf chosen.now) frontier.draft frontier.bits (members_of frontier.worklist)
         → IsFrontier rules.now table made) }
     ensures checks { IfOk result (λ made. MeetsChecks (function_of made.draft)) }
     ensures numbers { IfOk result (λ made. NumbersFit (function_of made.draft)) }
@@ -450,13 +507,16 @@ fn rewrite_and_clean(
     orders_are_kept();
     let Frontier {
         draft,
+        bits,
         worklist,
         depth,
     } = frontier;
     let (rewritten, touched) = rewrite_draft(alloc, draft, rules, chosen)?;
-    let (waiting, last) = worklist.insert_reaching(alloc, rewritten, touched.as_slice(), depth)?;
+    let (bits, changed) = update(alloc, bits, &rewritten, touched)?;
+    let (waiting, last) = worklist.insert_reaching(alloc, rewritten, changed.as_slice(), depth)?;
     Ok(Frontier {
         draft: last,
+        bits,
         worklist: waiting,
         depth,
     })

@@ -1,9 +1,7 @@
--- no source so far has more than `depth` + 1 statements
-use Rattle.strategy.proofs.Common.{◌≡◌, ◌+◌, ◌<◌, ◌≤◌, ℕ, suc, length, Some, slice_get, ◌^◌, Rule}
+-- the sources so far are within the depth
+use Rattle.strategy.proofs.Common.{SoFar}
+use Rattle.strategy.proofs.Searching.{IsSourceWithin}
 use Rattle.strategy.proofs.frontier.depth_of.Given as goal
 
 abbrev pub invariant-loop-rule : goal.invariant-loop-rule
-invariant-loop-rule l = record {
-  fits : l.depth + 1 < 2 ^ 64;
-  deep : (r : ℕ) (rule : Rule) → r < l.rule-index → slice_get l.rules r ≡ Some rule → length rule.source ≤ suc l.depth;
-}
+invariant-loop-rule l = SoFar (IsSourceWithin l.depth) l.rules l.rule-index

@@ -5,11 +5,11 @@ use Rattle.strategy.proofs.frontier.step.Goals as goal
 use Rattle.strategy.proofs.frontier.step.Goals.{In-Some, In_default}
 
 -- a match was found; and below, none was
-found : (c : In-Some) → SearchesTo c.args.rules.now.all.now c.args.options.conflicts c.args.frontier.draft (members_of c.next_admitted.new.worklist) c.args.verdicts.now c.next_admitted.new.verdicts (Some c.in-Some.chosen)
-found c = subst (SearchesTo c.args.rules.now.all.now c.args.options.conflicts c.args.frontier.draft (members_of c.next_admitted.new.worklist) c.args.verdicts.now c.next_admitted.new.verdicts) c.in-Some.is c.in_ok-found.ensures.found
+found : (c : In-Some) → SearchesTo c.args.rules.now.all.now c.args.options.conflicts c.args.frontier.draft c.args.frontier.bits (members_of c.next_admitted.new.worklist) c.args.verdicts.now c.next_admitted.new.verdicts (Some c.in-Some.chosen)
+found c = subst (SearchesTo c.args.rules.now.all.now c.args.options.conflicts c.args.frontier.draft c.args.frontier.bits (members_of c.next_admitted.new.worklist) c.args.verdicts.now c.next_admitted.new.verdicts) c.in-Some.is c.in_ok-found.ensures.found
 
-none_found : (c : In_default) → SearchesTo c.args.rules.now.all.now c.args.options.conflicts c.args.frontier.draft (members_of c.next_admitted.new.worklist) c.args.verdicts.now c.next_admitted.new.verdicts None
-none_found c = subst (SearchesTo c.args.rules.now.all.now c.args.options.conflicts c.args.frontier.draft (members_of c.next_admitted.new.worklist) c.args.verdicts.now c.next_admitted.new.verdicts) c.in_default.is c.in_ok-found.ensures.found
+none_found : (c : In_default) → SearchesTo c.args.rules.now.all.now c.args.options.conflicts c.args.frontier.draft c.args.frontier.bits (members_of c.next_admitted.new.worklist) c.args.verdicts.now c.next_admitted.new.verdicts None
+none_found c = subst (SearchesTo c.args.rules.now.all.now c.args.options.conflicts c.args.frontier.draft c.args.frontier.bits (members_of c.next_admitted.new.worklist) c.args.verdicts.now c.next_admitted.new.verdicts) c.in_default.is c.in_ok-found.ensures.found
 
 pub returns-in_default-clause-steps : goal.returns-in_default-clause-steps
 returns-in_default-clause-steps c =
@@ -22,6 +22,8 @@ returns-in_default-clause-frontier c = record {
   clean = c.requires.frontier.clean;
   worklist = c.in_ok-found.ensures.worklist;
   depth = c.requires.frontier.depth;
+  bits = c.requires.frontier.bits;
+  few = c.requires.frontier.few;
   turned_down = (none_found (goal.at.returns-in_default-clause-frontier c).In_default).1;
 }
 
