@@ -53,7 +53,13 @@ const MET: &str =
 const ADD_WIDTHS: &str =
     "Name: add-widths\n%t = add %x, 1\n%r = sub %t, 1\n=>\n%r = add %x, width(%t) - width(%t)\n";
 
-const ROWS: [Row; 31] = [
+const OR_KNOWN: &str =
+    "Version: 2\nName: or-known\nPre: MaskedValueIsZero(%x, C)\n%r = or %x, C\n=>\n%r = add %x, C\n";
+
+const NON_ZERO: &str =
+    "Version: 2\nName: nonzero\nPre: isKnownNonZero(%x)\n%r = icmp eq %x, 0\n=>\n%r = 0\n";
+
+const ROWS: [Row; 37] = [
     Row {
         rule: NOT_ADD,
         function: "define i4 @f(i4 %a) { %1 = xor i4 %a, -1 %2 = add i4 %1, 5 ret i4 %2 }",
@@ -341,6 +347,85 @@ const ROWS: [Row; 31] = [
             inputs: &[A],
             constants: &[],
             widths: &[8, 1, 3],
+        }],
+    },
+    // A mask whose bits are all known to be 0, and one of which a bit isn't.
+    Row {
+        rule: OR_KNOWN,
+        function: "define i5 @f(i5 %a) { %1 = shl i5 %a, 2 %2 = or i5 %1, 3 %3 = or i5 %1, 5 %4 = xor i5 %2, %3 ret i5 %4 }",
+        matches: &[Match {
+            at: (0, 1),
+            statements: &[1],
+            inputs: &[Given::Register(Register::Result(0, 0))],
+            constants: &[3],
+            widths: &[5],
+        }],
+    },
+    // A bit that is known to be 1, and the same when it is frozen, as a poison may be.
+    Row {
+        rule: NON_ZERO,
+        function: "define i1 @f(i4 %a) { %1 = or i4 %a, 2 %2 = freeze i4 %1 %3 = icmp eq i4 %1, 0 %4 = icmp eq i4 %2, 0
+%5 = xor i1 %3, %4 ret i1 %5 }",
+        matches: &[Match {
+            at: (0, 2),
+            statements: &[2],
+            inputs: &[Given::Register(Register::Result(0, 0))],
+            constants: &[],
+            widths: &[1, 4],
+        }],
+    },
+    // Of poison nothing is known, which is enough for a mask of 0; of a number each bit is.
+    Row {
+        rule: OR_KNOWN,
+        function: "define i5 @f() { %1 = or i5 poison, 0 %2 = or i5 poison, 1 %3 = or i5 4, 3 %4 = or i5 4, 5 %5 = xor i5 %3, %4
+ret i5 %5 }",
+        matches: &[
+            Match {
+                at: (0, 0),
+                statements: &[0],
+                inputs: &[Given::Poison],
+                constants: &[0],
+                widths: &[5],
+            },
+            Match {
+                at: (0, 2),
+                statements: &[2],
+                inputs: &[Given::Number(4)],
+                constants: &[3],
+                widths: &[5],
+            },
+        ],
+    },
+    // A result of another block, and a phi.
+    Row {
+        rule: OR_KNOWN,
+        function: "define i5 @f(i5 %a) { entry: %x = shl i5 %a, 2 br label %l l: %p = phi i5 [ 4, %entry ] %r = or i5 %x, 3
+%s = or i5 %p, 3 %t = xor i5 %r, %s ret i5 %t }",
+        matches: &[],
+    },
+    // A temporary, whose instruction has more flags.
+    Row {
+        rule: "Version: 2\nName: half\nPre: MaskedValueIsZero(%t, C)\n%t = lshr %x, 1\n%r = and %t, C\n=>\n%r = 0\n",
+        function: "define i5 @f(i5 %a) { %1 = lshr exact i5 %a, 1 %2 = and i5 %1, 16 %3 = and i5 %1, 24 %4 = or i5 %2, %3 ret i5 %4 }",
+        matches: &[Match {
+            at: (0, 1),
+            statements: &[0, 1],
+            inputs: &[A],
+            constants: &[16],
+            widths: &[5],
+        }],
+    },
+    // Two members, of which both have to follow.
+    Row {
+        rule: "Version: 2\nName: one\nPre: MaskedValueIsZero(%x, -2) && isKnownNonZero(%x)\n%r = mul %y, %x\n=>\n%r = %y\n",
+        function: "define i4 @f(i4 %a, i4 %b) { %1 = and i4 %a, 1 %2 = or i4 %1, 1 %3 = or i4 %a, 1 %4 = mul i4 %b, %1
+%5 = mul i4 %b, %2 %6 = mul i4 %b, %3 %7 = xor i4 %4, %5 %8 = xor i4 %6, %7 ret i4 %8 }",
+        matches: &[Match {
+            at: (0, 4),
+            statements: &[4],
+            inputs: &[B, Given::Register(Register::Result(0, 1))],
+            constants: &[],
+            widths: &[4],
         }],
     },
     // A root in a block that isn't reached.
