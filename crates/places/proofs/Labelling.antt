@@ -1,16 +1,7 @@
--- Labels of a list in which all are given anew, and of a new list.
+-- Labels of a list in which some are given anew, and of a new list.
 use Rattle.places.proofs.Common.{◌≡◌, ℕ, zero, suc, ◌+◌, ◌-◌, ◌*◌, ◌<◌, ◌≤◌, cond, eqb, inl, inr, List, [], ◌∷◌, length, get_or, refl, sym, ap, subst, ◌∙◌, arith, range_with_len, cases_eq, cond-true, cond-false, eq-eqb, ne_eqb, get_or_past, length-range_with_len, get_or-range_with_len, Node, none, node_of, no_node, AreLinked, IsListing, first_node_at}
 use Rattle.places.proofs.Members.{at_place}
 use Rattle.places.proofs.Linking.{linked-room}
-
--- labels that increase by more than d increase
-pub linked-less : (nodes : List Node) (d q a : ℕ) (ns : List ℕ) → AreLinked nodes d q a ns → AreLinked nodes 0 q a ns
-linked-less nodes d q a [] h = h
-linked-less nodes d q a (n ∷ ns) h =
-    (record { is = h.0.is; within = h.0.within; back = h.0.back; up = (let up = h.0.up in omega arith) }, linked-less nodes d n _ ns h.1)
-
-pub listing-less : (nodes : List Node) (d first : ℕ) (ns : List ℕ) → IsListing nodes d first ns → IsListing nodes 0 first ns
-listing-less nodes d first ns h = record { few = h.few; many = h.many; all = h.all; linked = linked-less nodes d none first ns h.linked }
 
 -- the label of each number is above that of the one before it by more than d
 pub listing-room : (nodes : List Node) (d first : ℕ) (ns : List ℕ) (at : ℕ) → IsListing nodes d first ns → at < length nodes → (node_of nodes (node_of nodes at).before).label + d < (node_of nodes at).label
@@ -24,35 +15,25 @@ pub record SameLinks (old new : List Node) : Type 0 where
   pub before : (n : ℕ) → (node_of new n).before ≡ (node_of old n).before
   pub after : (n : ℕ) → (node_of new n).after ≡ (node_of old n).after
 
--- the first of these numbers have the multiples of the gap as labels, in order
-abbrev pub AreLabelled : List Node → ℕ → List ℕ → ℕ → Type 0
-AreLabelled nodes gap ns i = (k : ℕ) → k < i → (node_of nodes (get_or ns k none)).label ≡ (k + 1) * gap
-
-relinked : (old new : List Node) (d gap i q a : ℕ) (ns : List ℕ) → SameLinks old new → 1 < gap → (node_of new q).label ≡ i * gap
-    → ((k : ℕ) → k < length ns → (node_of new (get_or ns k none)).label ≡ (i + k + 1) * gap) → AreLinked old d q a ns → AreLinked new 1 q a ns
-relinked old new d gap i q a [] same wide here labels h = h
-relinked old new d gap i q a (n ∷ ns) same wide here labels h =
-    let label : (node_of new n).label ≡ (i + 0 + 1) * gap = labels 0 (omega arith) in
+-- The links lead through the same numbers, whose labels are above one another.
+relinked : (old new : List Node) (q a : ℕ) (ns : List ℕ) → SameLinks old new → ((k : ℕ) → k < length ns → (node_of new (get_or (q ∷ ns) k none)).label < (node_of new (get_or ns k none)).label)
+    → AreLinked old 0 q a ns → AreLinked new 0 q a ns
+relinked old new q a [] same up h = h
+relinked old new q a (n ∷ ns) same up h =
     let many = same.many in
-    let within = h.0.within in (
+    let within = h.0.within in
+    let here : (node_of new q).label < (node_of new n).label = up 0 (omega arith) in (
       record { is = h.0.is; within = omega arith; back = same.before n ∙ h.0.back; up = omega arith },
-      subst (λ x. AreLinked new 1 n x ns) (sym (same.after n))
-          (relinked old new d gap (i + 1) n _ ns same wide (label ∙ (omega arith))
-          (λ k lt. labels (suc k) (omega arith) ∙ (let e : i + suc k + 1 ≡ i + 1 + k + 1 = omega arith in ap (λ m. m * gap) e)) h.1),
+      subst (λ x. AreLinked new 0 n x ns) (sym (same.after n)) (relinked old new n _ ns same (λ k lt. up (suc k) (omega arith)) h.1),
     )
 
-pub relabelled : (old new : List Node) (gap first : ℕ) (ns : List ℕ) → IsListing old 0 first ns → SameLinks old new → 1 < gap → AreLabelled new gap ns (length ns) → IsListing new 1 first ns
-relabelled old new gap first ns h same wide labels =
+pub relabelled : (old new : List Node) (first : ℕ) (ns : List ℕ) → IsListing old 0 first ns → SameLinks old new
+    → ((k : ℕ) → k < length ns → (node_of new (get_or (none ∷ ns) k none)).label < (node_of new (get_or ns k none)).label) → IsListing new 0 first ns
+relabelled old new first ns h same up =
     let same_many = same.many in
     let few = h.few in
     let many = h.many in
-    let unset : (node_of new none).label ≡ 0 * gap = ap (λ (x : Node). x.label) (get_or_past new none no_node (omega arith)) ∙ (omega arith) in
-    record {
-      few = omega arith;
-      many = omega arith;
-      all = λ n within. h.all n (omega arith);
-      linked = relinked old new 0 gap 0 none first ns same wide unset (λ k lt. labels k lt ∙ (let e : k + 1 ≡ 0 + k + 1 = omega arith in ap (λ m. m * gap) e)) h.linked;
-    }
+    record { few = omega arith; many = omega arith; all = λ n within. h.all n (omega arith); linked = relinked old new none first ns same up h.linked }
 
 -- a new list is linked, and its labels increase
 linked-first : (nodes : List Node) (count gap : ℕ) → 0 < gap → length nodes ≡ count → ((k : ℕ) → k < count → node_of nodes k ≡ first_node_at count gap k)

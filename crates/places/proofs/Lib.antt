@@ -4,6 +4,8 @@ pub mod Linking
 pub mod LinkedIn
 pub mod Labelling
 pub mod NodeWrites
+pub mod Runs
+pub mod Spacing
 pub mod MarkLemmas
 pub mod Ranks
 pub mod Tallies

@@ -1,6 +1,6 @@
 -- What links say of the number at a place: its neighbours, and that labels increase.
-use Rattle.places.proofs.Common.{◌≡◌, ℕ, zero, suc, ◌+◌, ◌<◌, ◌≤◌, cond, eqb, ◌⊎◌, inl, inr, List, [], ◌∷◌, length, get_or, None, Some, refl, sym, ap, subst, ◌∙◌, arith, ◌↔◌, slice_get, cases_lt, cases_order, cond-true, cond-false, eq-eqb, ne_eqb, get_or_past, slice_get-get_or, slice_get_past, Node, none, place_in, node_of, AreLinked, IsListing, walked, numbers_from}
-use Rattle.places.proofs.Members.{AtPlace}
+use Rattle.places.proofs.Common.{◌≡◌, ℕ, zero, suc, ◌+◌, ◌<◌, ◌≤◌, cond, eqb, ◌⊎◌, inl, inr, List, [], ◌∷◌, length, get_or, None, Some, refl, sym, ap, subst, ◌∙◌, arith, ◌↔◌, slice_get, cases_eq, cases_lt, cases_order, cond-true, cond-false, eq-eqb, ne_eqb, get_or_past, slice_get-get_or, slice_get_past, Node, none, place_in, node_of, AreLinked, IsListing, walked, numbers_from}
+use Rattle.places.proofs.Members.{AtPlace, at_place, contains_at}
 
 pub linked-head : (nodes : List Node) (d q a : ℕ) (ns : List ℕ) → AreLinked nodes d q a ns → a ≡ get_or ns 0 none
 linked-head nodes d q a [] h = h
@@ -16,11 +16,20 @@ linked-after nodes d q a [] k h lt = absurd (omega arith)
 linked-after nodes d q a (n ∷ ns) zero h lt = linked-head nodes d n _ ns h.1
 linked-after nodes d q a (n ∷ ns) (suc k) h lt = linked-after nodes d n _ ns k h.1 (omega arith)
 
+-- what stands before the number at a place
+pub linked-pred : (nodes : List Node) (d q a : ℕ) (ns : List ℕ) (k : ℕ) → AreLinked nodes d q a ns → k < length ns → (node_of nodes (get_or ns k none)).before ≡ get_or (q ∷ ns) k none
+linked-pred nodes d q a [] k h lt = absurd (omega arith)
+linked-pred nodes d q a (n ∷ ns) zero h lt = h.0.back
+linked-pred nodes d q a (n ∷ ns) (suc k) h lt = linked-pred nodes d n _ ns k h.1 (omega arith)
+
 -- the label of a number is above that of the one before it
+pub linked-rise : (nodes : List Node) (d q a : ℕ) (ns : List ℕ) (k : ℕ) → AreLinked nodes d q a ns → k < length ns → (node_of nodes (get_or (q ∷ ns) k none)).label + d < (node_of nodes (get_or ns k none)).label
+linked-rise nodes d q a [] k h lt = absurd (omega arith)
+linked-rise nodes d q a (n ∷ ns) zero h lt = h.0.up
+linked-rise nodes d q a (n ∷ ns) (suc k) h lt = linked-rise nodes d n _ ns k h.1 (omega arith)
+
 pub linked-room : (nodes : List Node) (d q a : ℕ) (ns : List ℕ) (k : ℕ) → AreLinked nodes d q a ns → k < length ns → (node_of nodes (node_of nodes (get_or ns k none)).before).label + d < (node_of nodes (get_or ns k none)).label
-linked-room nodes d q a [] k h lt = absurd (omega arith)
-linked-room nodes d q a (n ∷ ns) zero h lt = subst (λ p. (node_of nodes p).label + d < (node_of nodes n).label) (sym h.0.back) h.0.up
-linked-room nodes d q a (n ∷ ns) (suc k) h lt = linked-room nodes d n _ ns k h.1 (omega arith)
+linked-room nodes d q a ns k h lt = subst (λ p. (node_of nodes p).label + d < (node_of nodes (get_or ns k none)).label) (sym (linked-pred nodes d q a ns k h lt)) (linked-rise nodes d q a ns k h lt)
 
 -- the predecessor of a number is that of the first, or a number of the list
 pub linked-before : (nodes : List Node) (d q a : ℕ) (ns : List ℕ) (k : ℕ) → AreLinked nodes d q a ns → k < length ns → ((node_of nodes (get_or ns k none)).before ≡ q) ⊎ ((node_of nodes (get_or ns k none)).before < length nodes)
@@ -88,3 +97,20 @@ labels-order nodes d q a ns m n h at_m at_n =
       ],
       λ below. let up : label j < label k = linked-up nodes d q a ns j k h below at_n.within in omega arith,
     )
+
+-- at two places there are two numbers
+pub linked-apart : (nodes : List Node) (d q a : ℕ) (ns : List ℕ) (j k : ℕ) → AreLinked nodes d q a ns → j < length ns → k < length ns → (j ≡ k → ⊥) → get_or ns j none ≡ get_or ns k none → ⊥
+linked-apart nodes d q a ns j k h in_j in_k other e =
+    let same : (node_of nodes (get_or ns j none)).label ≡ (node_of nodes (get_or ns k none)).label = ap (λ n. (node_of nodes n).label) e in
+    elim (cases_lt j k) [
+      | inl lt ↦ let up = linked-up nodes d q a ns j k h lt in_k in omega arith
+      | inr ge ↦ let up = linked-up nodes d q a ns k j h (omega arith) in_j in omega arith
+    ]
+
+pub linked-place : (nodes : List Node) (d q a : ℕ) (ns : List ℕ) (k : ℕ) → AreLinked nodes d q a ns → k < length ns → place_in ns (get_or ns k none) ≡ k
+linked-place nodes d q a ns k h lt =
+    let there = at_place ns (get_or ns k none) (contains_at ns k lt) in
+    elim (cases_eq (place_in ns (get_or ns k none)) k) [
+      | inl e ↦ e
+      | inr other ↦ absurd (linked-apart nodes d q a ns (place_in ns (get_or ns k none)) k h there.within lt other there.is)
+    ]

@@ -1,5 +1,5 @@
 -- Where a number stands in a list, and what a list has once a number is inserted.
-use Rattle.places.proofs.Common.{◌≡◌, ℕ, zero, suc, ◌<◌, ◌⊎◌, inl, inr, List, [], ◌∷◌, length, get_or, refl, sym, ap, subst, ◌∙◌, arith, Contains, cases_eq, cond-true, cond-false, eq-eqb, ne_eqb, none, place_in, put_before}
+use Rattle.places.proofs.Common.{◌≡◌, ℕ, zero, suc, ◌<◌, ◌⊎◌, inl, inr, List, [], ◌∷◌, length, get_or, get_or_default, refl, sym, ap, subst, ◌∙◌, arith, Contains, cases_eq, cond-true, cond-false, eq-eqb, ne_eqb, none, place_in, put_before}
 
 pub contains_first : {X : Type 0} (x : X) (xs : List X) → Contains (x ∷ xs) x
 contains_first x xs = (0, omega arith, refl)
@@ -46,6 +46,18 @@ at_place (m ∷ ns) n c =
         within = omega (arith, later, rest.within);
         is = ap (λ i. get_or (m ∷ ns) i none) later ∙ rest.is;
       }
+    ]
+
+pub contains_at : (ns : List ℕ) (k : ℕ) → k < length ns → Contains ns (get_or ns k none)
+contains_at ns k lt = (k, lt, get_or_default ns k (get_or ns k none) none lt)
+
+-- a number that has a place within the list is there
+pub place-is : (ns : List ℕ) (n : ℕ) → place_in ns n < length ns → get_or ns (place_in ns n) none ≡ n
+place-is [] n lt = absurd (omega arith)
+place-is (m ∷ ns) n lt =
+    elim (cases_eq m n) [
+      | inl e ↦ let here = place-here m n ns e in ap (λ i. get_or (m ∷ ns) i none) here ∙ e
+      | inr ne ↦ let later = place-later m n ns ne in ap (λ i. get_or (m ∷ ns) i none) later ∙ place-is ns n (omega (arith, later))
     ]
 
 pub length-put : (ns : List ℕ) (at n : ℕ) → Contains ns at → length (put_before ns at n) ≡ suc (length ns)

@@ -1,8 +1,7 @@
 -- What nodes are once a field of one is written.
-use Rattle.places.proofs.Common.{◌≡◌, ℕ, suc, ◌+◌, ◌*◌, ◌<◌, ◌≤◌, cond, eqb, ◌⊎◌, None, Some, Contains, inl, inr, List, [], ◌∷◌, ◌++◌, length, get_or, set, take, drop, Result, Ok, Err, refl, sym, ap, subst, ◌∙◌, arith, length-set, length-append, get_or-set_same, get_or-set_other, ◌↔◌, slice_get, OnErr, cases_eq, cases_lt, cond-true, cond-false, eq-eqb, ne_eqb, get_or_past, get_or_append_left, get_or_push, set_past, take_at, Node, none, place_in, put_before, node_of, no_node, IsListing, numbers_from, with_label, linked_in}
-use Rattle.places.proofs.Linking.{numbers-listing, linked-within, linked-after, linked-up, linked-before, some-at, labels-order}
+use Rattle.places.proofs.Common.{◌≡◌, ℕ, suc, ◌+◌, ◌<◌, ◌≤◌, cond, eqb, ◌⊎◌, None, Some, Contains, inl, inr, List, [], ◌∷◌, ◌++◌, length, set, Result, Ok, Err, refl, sym, ap, subst, ◌∙◌, arith, length-set, length-append, get_or-set_same, get_or-set_other, ◌↔◌, slice_get, OnErr, cases_eq, cases_lt, cond-true, cond-false, eq-eqb, ne_eqb, get_or_past, get_or_append_left, get_or_push, set_past, Node, none, place_in, put_before, node_of, no_node, IsListing, numbers_from, linked_in}
+use Rattle.places.proofs.Linking.{numbers-listing, linked-within, linked-after, linked-before, some-at, labels-order}
 use Rattle.places.proofs.Members.{at_place}
-use Rattle.places.proofs.Labelling.{SameLinks, AreLabelled}
 use Rattle.places.proofs.LinkedIn.{IsPut, put-listing}
 
 -- a write that leaves a field of the node as it was leaves it in all nodes
@@ -24,38 +23,6 @@ written-field f nodes i y v is k within =
           ∙ sym (cond-true _ _ _ (eq-eqb i k e))
       | inr ne ↦ ap f (get_or-set_other nodes i k y no_node (λ e. ne (sym e))) ∙ sym (cond-false _ _ _ (ne_eqb i k ne))
     ]
-
--- one more of these numbers gets its label
-pub labels-more : (old nodes : List Node) (gap first i number label : ℕ) (ns : List ℕ) → IsListing old 0 first ns → SameLinks old nodes → AreLabelled nodes gap ns i → i < length ns → number ≡ get_or ns i none → label ≡ (i + 1) * gap
-    → SameLinks old (with_label nodes number label) × AreLabelled (with_label nodes number label) gap ns (i + 1)
-labels-more old nodes gap first i number label ns h same labels within is label_is = (
-  record {
-    many = length-set nodes number y ∙ same.many;
-    before = λ n. kept-field (λ (x : Node). x.before) nodes number y refl n ∙ same.before n;
-    after = λ n. kept-field (λ (x : Node). x.after) nodes number y refl n ∙ same.after n;
-  },
-  labelled,
-)
-  where
-    y : Node
-    y = record { label = label; before = (node_of nodes number).before; after = (node_of nodes number).after }
-
-    inside : number < length nodes
-    inside = let below = linked-within old 0 none first ns i h.linked within in let many = same.many in omega (arith, is)
-
-    labelled : AreLabelled (set nodes number y) gap ns (i + 1)
-    labelled k lt =
-        elim (cases_eq k i) [
-          | inl e ↦
-              let at : get_or ns k none ≡ number = ap (λ j. get_or ns j none) e ∙ sym is in
-              ap (λ n. (node_of (set nodes number y) n).label) at ∙ ap (λ (x : Node). x.label) (get_or-set_same nodes number y no_node inside) ∙ label_is ∙ ap (λ j. (j + 1) * gap) (sym e)
-          | inr ne ↦
-              let before : k < i = omega arith in
-              let other : get_or ns k none ≡ number → ⊥ = λ e.
-              (let up = linked-up old 0 none first ns k i h.linked before within in
-              let clash : (node_of old (get_or ns k none)).label ≡ (node_of old (get_or ns i none)).label = ap (λ n. (node_of old n).label) (e ∙ is) in omega arith) in
-              ap (λ (x : Node). x.label) (get_or-set_other nodes number (get_or ns k none) y no_node other) ∙ labels k before
-        ]
 
 -- the nodes with a new one pushed and linked in before another
 abbrev pub put_in : List Node → ℕ → ℕ → ℕ → List Node
@@ -150,11 +117,6 @@ listing-next nodes d first ns n h c =
 
 pub listing-order : (nodes : List Node) (d first : ℕ) (ns : List ℕ) (m n : ℕ) → IsListing nodes d first ns → Contains ns m → Contains ns n → ((node_of nodes m).label < (node_of nodes n).label) ↔ (place_in ns m < place_in ns n)
 listing-order nodes d first ns m n h in_m in_n = labels-order nodes d none first ns m n h.linked (at_place ns m in_m) (at_place ns n in_n)
-
--- the numbers are the same where labels were given anew
-pub made-room : (items was new : List Node) (first len : ℕ) → was ≡ items → length new ≡ len → IsListing new 0 first (numbers_from was first) → numbers_from (take len (new ++ drop (length new) items)) first ≡ numbers_from items first
-made-room items was new first len is lengths h =
-    ap (λ l. numbers_from l first) (take_at new (drop (length new) items) len lengths) ∙ numbers-listing new 0 first (numbers_from was first) h ∙ ap (λ l. numbers_from l first) is
 
 pub on_err : {T E : Type 0} (r : Result T E) (P : Type 0) → P → OnErr r P
 on_err (Ok x) P p = tt

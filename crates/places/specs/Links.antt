@@ -1,7 +1,7 @@
 -- Doubly linked lists of the numbers of a block, with the node of each number at its index.
 use Rattle.std.specs.Prelude.{◌≡◌, ℕ, zero, suc, ◌+◌, ◌-◌, ◌*◌, ◌<◌, ◌≤◌, ◌==◌, if◌then◌else◌, List, [], ◌∷◌, length, Contains, slice_index_or, slice_set}
 use Rattle.places.specs.Orders.{none}
-use Rattle.places.specs.declared.links.Node.{Node}
+use Rattle.places.specs.declared.node.Node.{Node}
 
 -- the node that is read for no number
 abbrev pub no_node : Node

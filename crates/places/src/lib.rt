@@ -5,8 +5,10 @@
 mod heap;
 mod links;
 mod marks;
+mod node;
 mod order;
 mod place;
+mod room;
 mod worklist;
 
 pub use marks::Marks;

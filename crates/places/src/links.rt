@@ -5,19 +5,18 @@ ghost use Rattle.std.specs.Prelude.{◌≡◌, ◌==◌, ◌+◌, ◌*◌, ◌<�
 ghost use Rattle.std.specs.List.{range_with_len};
 ghost use Rattle.places.specs.Orders.{none, place_in};
 ghost use Rattle.places.specs.Orders as numbers;
-ghost use Rattle.places.specs.Links.{IsListing, node_of, numbers_from, first_node_at, with_label, with_before, with_after, linked_in};
+ghost use Rattle.places.specs.Links.{IsListing, node_of, first_node_at, linked_in};
 ghost use Rattle.places.specs.Numbers.{numbers_in};
 
+use crate::node::{NONE, Node, label_of, node_at, set_after, set_before};
+use crate::room::gap_of;
 use std::alloc::{AllocError, Global};
-
-/// No number: what follows the last one, and what precedes the first.
-const NONE: u32 = u32::MAX;
 
 /// A linked list of numbers, with a node for each at its index.
 #[derive(Drop)]
 pub(crate) struct Links {
-    nodes: Vec<Node>,
-    first: u32,
+    pub(crate) nodes: Vec<Node>,
+    pub(crate) first: u32,
 }
 
 impl Links {
@@ -73,7 +72,7 @@ impl Links {
         ensures ok { IfOk result (λ number. IsListing self.new.nodes.items 0 self.new.first (numbers.put_before (numbers_in self.old) at number)) }
         ensures err { OnErr result (IsListing self.new.nodes.items 0 self.new.first (numbers_in self.old)) }
     {
-        make_room(self.nodes.as_mut_slice(), self.first, at);
+        self.make_room(at);
         let number = self.push_before(at)?;
         Ok(number)
     }
@@ -117,75 +116,11 @@ fn if_first(before: u32, number: u32, first: u32) -> u32
     if before == NONE { number } else { first }
 }
 
-/// The label of a number, which increases along the list, and its neighbours in the list.
-#[derive(Clone, Copy)]
-struct Node {
-    label: u64,
-    before: u32,
-    after: u32,
-}
-
 /// The number, unless it stands for none.
 fn some(number: u32) -> Option<u32>
     ensures { result ≡ (if number == none then None else Some number) }
 {
     if number == NONE { None } else { Some(number) }
-}
-
-/// The label of a number, and for `NONE` 0, which is below all labels.
-fn label_of(nodes: &[Node], number: u32) -> u64
-    ensures { result ≡ (node_of nodes.now number).label }
-{
-    match nodes.get(number as usize) {
-        Some(node) => node.label,
-        None => 0,
-    }
-}
-
-/// The node of a number.
-fn node_at(nodes: &[Node], number: u32) -> Node
-    requires { number < length nodes.now }
-    ensures { result ≡ node_of nodes.now number }
-{
-    nodes[number as usize]
-}
-
-/// Makes sure that there is a free label between that of a number and its predecessor's, by giving all new labels where
-/// there is none.
-fn make_room(nodes: &mut [Node], first: u32, at: u32)
-    requires listing { IsListing nodes.old 0 first (numbers_from nodes.old first) }
-    requires at { at < length nodes.old }
-    ensures listing { IsListing nodes.new 0 first (numbers_from nodes.old first) }
-    ensures room { (node_of nodes.new (node_of nodes.new at).before).label + 1 < (node_of nodes.new at).label }
-{
-    let node = node_at(nodes, at);
-    let low = label_of(nodes, node.before);
-    let gap = node.label - low;
-    if gap < 2 {
-        label_anew(nodes, first);
-    }
-}
-
-/// Gives all numbers new labels, evenly spaced, with a free label below each.
-fn label_anew(nodes: &mut [Node], first: u32)
-    requires { IsListing nodes.old 0 first (numbers_from nodes.old first) }
-    ensures { IsListing nodes.new 1 first (numbers_from nodes.old first) }
-{
-    let gap = gap_of(nodes.len() as u32);
-    let mut label = 0;
-    let mut number = first;
-    for place in 0..nodes.len() {
-        label += gap;
-        set_label(nodes, number, label);
-        number = node_at(nodes, number).after;
-    }
-}
-
-fn set_label(nodes: &mut [Node], number: u32, label: u64)
-    requires { number < length nodes.old }
-    ensures { nodes.new ≡ with_label nodes.old number label }
-{
-    nodes[number as usize].label = label;
 }
 
 /// Links a number in between two neighbours: writes the backward link of `at` and the forward link of `before`.
@@ -197,22 +132,6 @@ fn link_in(nodes: &mut [Node], at: u32, before: u32, number: u32)
     set_after(nodes, before, number);
 }
 
-fn set_before(nodes: &mut [Node], number: u32, before: u32)
-    requires { number < length nodes.old }
-    ensures { nodes.new ≡ with_before nodes.old number before }
-{
-    nodes[number as usize].before = before;
-}
-
-/// Writes the forward link of a number, unless it is `NONE`.
-fn set_after(nodes: &mut [Node], number: u32, after: u32)
-    ensures { nodes.new ≡ with_after nodes.old number after }
-{
-    if (number as usize) < nodes.len() {
-        nodes[number as usize].after = after;
-    }
-}
-
 /// A label between two, nearer to the lower one: where the next number is inserted before the same one, it goes above
 /// this label and finds more room there.
 fn between(low: u64, high: u64) -> u64
@@ -221,14 +140,6 @@ fn between(low: u64, high: u64) -> u64
     ensures below { result < high }
 {
     low + 1 + (high - low - 2) / 4
-}
-
-/// The distance at which the labels of so many numbers are spaced evenly.
-fn gap_of(count: u32) -> u64
-    ensures apart { 1 < result }
-    ensures fits { (count + 1) * result ≤ u64.MAX }
-{
-    u64::MAX / (u64::from(count) + 1)
 }
 
 /// The node of a number in a new list of so many, in ascending order.
