@@ -13,7 +13,10 @@ use places::{END, Place};
 /// How many users are followed along a chain.
 const MOST_FOLLOWED: u32 = 64;
 
-/// Whether a register is seen to be live: a chain from user to user, always to the last of the use list, comes to a
+/// At how many places from the end of a use list on it is looked for one that still reads.
+const MOST_LOOKED_AT: usize = 16;
+
+/// Whether a register is seen to be live: a chain from user to user, always to the last one of the use list, comes to a
 /// terminator within so many.
 pub(crate) fn leads_to_a_terminator(draft: &Draft, register: Register) -> bool
     requires whole { IsWhole draft.now }
@@ -33,7 +36,7 @@ pub(crate) fn leads_to_a_terminator(draft: &Draft, register: Register) -> bool
     false
 }
 
-/// The last place of a register's use list, if the register is still read there.
+/// The last place of a register's use list that still reads the register, unless too many after it ceased to.
 fn last_reader(draft: &Draft, register: Register) -> Option<Place>
     requires whole { IsWhole draft.now }
     requires known { IsKnown draft.now.arena (Operand.Register register) }
@@ -41,14 +44,13 @@ fn last_reader(draft: &Draft, register: Register) -> Option<Place>
     ensures reads { IfSome result (IsReader draft.now.arena register) }
 {
     let places = draft.readers_of(register);
-    let count = places.len();
-    if count == 0 {
-        return None;
+    let end = places.len();
+    let begin = end.saturating_sub(MOST_LOOKED_AT);
+    for index in (begin..end).rev() {
+        let place = places[index];
+        if draft.reads(place, register) {
+            return Some(place);
+        }
     }
-    let place = places[count - 1];
-    if draft.reads(place, register) {
-        Some(place)
-    } else {
-        None
-    }
+    None
 }
