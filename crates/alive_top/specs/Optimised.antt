@@ -28,11 +28,11 @@ pub record IsOptimised (rules : List Rule) (options : OptimiseOptions) (bytes : 
   pub read : Module
   pub source : IsModuleText bytes read
   -- it is what the plain strategy gives for the module read, by this table
-  pub strategy : IsPlainStrategy options.fold rules options.steps table read new counts limited
+  pub strategy : IsPlainStrategy options.fold options.across rules options.steps table read new counts limited
   -- a rule that is admitted is valid there, a counterexample is one, and a search gave up only at its limit
   pub honest : IsHonestTable rules options.conflicts table
   -- each match that is left has a verdict, and none is admitted, unless its function ran out of steps
-  pub decided : MatchesAreDecided rules table new limited
+  pub decided : MatchesAreDecided options.across rules table new limited
   -- it refines the module that was read
   pub refines : ModuleRefines read new
   pub checks : ModuleMeetsChecks new

@@ -41,7 +41,7 @@ fn optimised_by(alloc: Global, module: &Module, rules: &[Rule]) -> Result<Done, 
     requires classes { All IsClassified rules.now }
     requires typed { All HasNoFault rules.now }
     requires few { length rules.now < 2 ^ 32 }
-    ensures strategy { IfOk result (λ done. IsPlainStrategy false rules.now default_steps done.table module.now done.module done.counts done.limited) }
+    ensures strategy { IfOk result (λ done. IsPlainStrategy false false rules.now default_steps done.table module.now done.module done.counts done.limited) }
     ensures honest { IfOk result (λ done. IsHonestTable rules.now default_conflicts done.table) }
     ensures admitted { IfOk result (λ done. All (λ row. row.verdict ≡ Verdict.Admitted) done.table) }
 {
@@ -50,6 +50,7 @@ fn optimised_by(alloc: Global, module: &Module, rules: &[Rule]) -> Result<Done, 
         conflicts: DEFAULT_CONFLICTS,
         steps: DEFAULT_STEPS,
         fold: false,
+        across: false,
     };
     let done = strategy::optimise(alloc, module, rules, logs, &options)?;
     if are_admitted(done.table.as_slice()) {

@@ -99,6 +99,7 @@ pub(crate) fn optimise_module(
             conflicts: options.conflicts,
             steps: options.steps,
             fold: options.fold,
+            across: options.across,
         },
     )?;
     let out = print_module(alloc, &done.module)?;

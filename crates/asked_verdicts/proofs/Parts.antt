@@ -19,9 +19,9 @@ IsPast b k m = IsInEarlierBlock b m ⊎ IsEarlier b k m
 any_right : {X : Type 0} (P : X → Type 0) (xs ys : List X) → Any P ys → Any P (xs ++ ys)
 any_right P xs ys (k, x, within, at, h) = (let has = Contains-append_right xs ys x (k, within, at) in (has.0, x, has.1, has.2, h))
 
-module _ (rules : List Rule) (conflicts : ℕ) (f : Function) where
+module _ (across : Bool) (rules : List Rule) (conflicts : ℕ) (f : Function) where
   -- where there is no match, nothing is asked
-  pub asks_none : (P : Match → Type 0) (v : Verdicts) → ((m : Match) → IsMatchAmong rules f m → ¬ P m) → AsksAll rules conflicts f P v v false
+  pub asks_none : (P : Match → Type 0) (v : Verdicts) → ((m : Match) → IsMatchAmong across rules f m → ¬ P m) → AsksAll across rules conflicts f P v v false
   asks_none P v never = record {
     matches = [];
     are_matches = none_where rules f P never;
@@ -31,14 +31,14 @@ module _ (rules : List Rule) (conflicts : ℕ) (f : Function) where
 
   -- ---- at an instruction
 
-  pub asks_these : (P : Match → Type 0) (ms : List Match) (a c : Verdicts) (any : Bool) → AreMatchesWhere rules f P ms → Asks rules conflicts (map pair_of ms) a c
-      → MatchBool any (Any (IsAdmitted c.table) ms) (All (IsTurnedDown c.table) ms) → AsksAll rules conflicts f P a c any
+  pub asks_these : (P : Match → Type 0) (ms : List Match) (a c : Verdicts) (any : Bool) → AreMatchesWhere across rules f P ms → Asks rules conflicts (map pair_of ms) a c
+      → MatchBool any (Any (IsAdmitted c.table) ms) (All (IsTurnedDown c.table) ms) → AsksAll across rules conflicts f P a c any
   asks_these P ms a c any are asks answer = record { matches = ms; are_matches = are; asks = asks; answer = answer }
 
-  pub asks_first : (P : Match → Type 0) (ms : List Match) (i : ℕ) (a c : Verdicts) → AreMatchesWhere rules f P ms → (first : AsksToPlace rules conflicts ms a c (Some i))
-      → AsksUpTo rules conflicts f P a c first.0
+  pub asks_first : (P : Match → Type 0) (ms : List Match) (i : ℕ) (a c : Verdicts) → AreMatchesWhere across rules f P ms → (first : AsksToPlace rules conflicts ms a c (Some i))
+      → AsksUpTo across rules conflicts f P a c first.0
   asks_first P ms i a c are (chosen, at, asks, down, up) =
-      let is = All-contains (λ m. IsMatchAmong rules f m × P m) ms chosen are.each (contains_at ms i chosen at) in
+      let is = All-contains (λ m. IsMatchAmong across rules f m × P m) ms chosen are.each (contains_at ms i chosen at) in
       record {
         is_match = is.0;
         holds = is.1;
@@ -63,8 +63,8 @@ module _ (rules : List Rule) (conflicts : ℕ) (f : Function) where
 
   both : (P Q R : Match → Type 0) (a b c : Verdicts) (x y : Bool)
       → ((m n : Match) → P m → Q n → ComesBefore m n)
-      → ((m : Match) → IsMatchAmong rules f m → R m → P m ⊎ Q m) → ((m : Match) → P m → R m) → ((m : Match) → Q m → R m)
-      → AsksAll rules conflicts f P a b x → AsksAll rules conflicts f Q b c y → AsksAll rules conflicts f R a c (x || y)
+      → ((m : Match) → IsMatchAmong across rules f m → R m → P m ⊎ Q m) → ((m : Match) → P m → R m) → ((m : Match) → Q m → R m)
+      → AsksAll across rules conflicts f P a b x → AsksAll across rules conflicts f Q b c y → AsksAll across rules conflicts f R a c (x || y)
   both P Q R a b c x y before split from_p from_q first later = record {
     matches = first.matches ++ later.matches;
     are_matches = joined rules f P Q R first.matches later.matches first.are_matches later.are_matches before split from_p from_q;
@@ -75,7 +75,7 @@ module _ (rules : List Rule) (conflicts : ℕ) (f : Function) where
   ends : (P Q R : Match → Type 0) (chosen : Match) (a b c : Verdicts)
       → ((m n : Match) → P m → Q n → ComesBefore m n)
       → ((m : Match) → R m → ComesBefore m chosen → P m ⊎ Q m) → ((m : Match) → P m → R m) → ((m : Match) → Q m → R m)
-      → AsksAll rules conflicts f P a b false → AsksUpTo rules conflicts f Q b c chosen → AsksUpTo rules conflicts f R a c chosen
+      → AsksAll across rules conflicts f P a b false → AsksUpTo across rules conflicts f Q b c chosen → AsksUpTo across rules conflicts f R a c chosen
   ends P Q R chosen a b c before split from_p from_q first later = record {
     is_match = later.is_match;
     holds = from_q chosen later.holds;
@@ -88,32 +88,32 @@ module _ (rules : List Rule) (conflicts : ℕ) (f : Function) where
     admitted = later.admitted;
   }
 
-  told_by : (P Q : Match → Type 0) (a c : Verdicts) (any : Bool) → ((m : Match) → IsMatchAmong rules f m → Q m → P m) → ((m : Match) → P m → Q m)
-      → AsksAll rules conflicts f P a c any → AsksAll rules conflicts f Q a c any
+  told_by : (P Q : Match → Type 0) (a c : Verdicts) (any : Bool) → ((m : Match) → IsMatchAmong across rules f m → Q m → P m) → ((m : Match) → P m → Q m)
+      → AsksAll across rules conflicts f P a c any → AsksAll across rules conflicts f Q a c any
   told_by P Q a c any back on h = record { matches = h.matches; are_matches = same_where rules f P Q h.matches h.are_matches back on; asks = h.asks; answer = h.answer }
 
   -- ---- the instructions of a block
 
-  no_place_yet : (b : ℕ) (m : Match) → IsMatchAmong rules f m → ¬ IsEarlier b 0 m
+  no_place_yet : (b : ℕ) (m : Match) → IsMatchAmong across rules f m → ¬ IsEarlier b 0 m
   no_place_yet b m is earlier = omega (arith, earlier.1)
 
-  pub no_place_asked : (b : ℕ) (v : Verdicts) → AsksAll rules conflicts f (IsEarlier b 0) v v false
+  pub no_place_asked : (b : ℕ) (v : Verdicts) → AsksAll across rules conflicts f (IsEarlier b 0) v v false
   no_place_asked b v = asks_none (IsEarlier b 0) v (no_place_yet b)
 
   place_before : (b k : ℕ) (m n : Match) → IsEarlier b k m → IsAt b k n → ComesBefore m n
   place_before b k m n of_m of_n = inr (of_m.0 ∙ sym of_n.0, inl (omega (arith, of_m.1, of_n.1)))
 
-  pub next_place : (b k : ℕ) (u v w : Verdicts) (x y : Bool) → AsksAll rules conflicts f (IsEarlier b k) u v x → AsksAll rules conflicts f (IsAt b k) v w y
-      → AsksAll rules conflicts f (IsEarlier b (k + 1)) u w (x || y)
+  pub next_place : (b k : ℕ) (u v w : Verdicts) (x y : Bool) → AsksAll across rules conflicts f (IsEarlier b k) u v x → AsksAll across rules conflicts f (IsAt b k) v w y
+      → AsksAll across rules conflicts f (IsEarlier b (k + 1)) u w (x || y)
   next_place b k u v w x y = both (IsEarlier b k) (IsAt b k) (IsEarlier b (k + 1)) u v w x y (place_before b k)
       (λ m is of. elim (cases_lt m.binding.place k) [ inl less ↦ inl (of.0, less) | inr past ↦ inr (of.0, omega (arith, of.1, past)) ])
       (λ m of. (of.0, omega (arith, of.1)))
       (λ m of. (of.0, omega (arith, of.1)))
 
-  pub whole_block : (b k : ℕ) (u w : Verdicts) (any : Bool) → AreReady rules → end_of f b ≤ k → AsksAll rules conflicts f (IsEarlier b k) u w any → AsksAll rules conflicts f (IsInBlock b) u w any
+  pub whole_block : (b k : ℕ) (u w : Verdicts) (any : Bool) → AreReady rules → end_of f b ≤ k → AsksAll across rules conflicts f (IsEarlier b k) u w any → AsksAll across rules conflicts f (IsInBlock b) u w any
   whole_block b k u w any ready past = told_by (IsEarlier b k) (IsInBlock b) u w any within (λ m of. of.0)
     where
-      within : (m : Match) → IsMatchAmong rules f m → IsInBlock b m → IsEarlier b k m
+      within : (m : Match) → IsMatchAmong across rules f m → IsInBlock b m → IsEarlier b k m
       within m is of =
           let root = root_stands rules f m ready is in
           let there : IsInst f b m.binding.place root.inst = subst (λ (d : ℕ). IsInst f d m.binding.place root.inst) of root.is_inst in
@@ -121,23 +121,23 @@ module _ (rules : List Rule) (conflicts : ℕ) (f : Function) where
 
   -- ---- the blocks of the function
 
-  pub no_block_asked : (v : Verdicts) → AsksAll rules conflicts f (IsInEarlierBlock 0) v v false
+  pub no_block_asked : (v : Verdicts) → AsksAll across rules conflicts f (IsInEarlierBlock 0) v v false
   no_block_asked v = asks_none (IsInEarlierBlock 0) v (λ m is of. omega (arith, of))
 
   block_before : (b : ℕ) (m n : Match) → IsInEarlierBlock b m → IsInBlock b n → ComesBefore m n
   block_before b m n of_m of_n = inl (omega (arith, of_m, of_n))
 
-  pub next_block : (b : ℕ) (u v w : Verdicts) (x y : Bool) → AsksAll rules conflicts f (IsInEarlierBlock b) u v x → AsksAll rules conflicts f (IsInBlock b) v w y
-      → AsksAll rules conflicts f (IsInEarlierBlock (b + 1)) u w (x || y)
+  pub next_block : (b : ℕ) (u v w : Verdicts) (x y : Bool) → AsksAll across rules conflicts f (IsInEarlierBlock b) u v x → AsksAll across rules conflicts f (IsInBlock b) v w y
+      → AsksAll across rules conflicts f (IsInEarlierBlock (b + 1)) u w (x || y)
   next_block b u v w x y = both (IsInEarlierBlock b) (IsInBlock b) (IsInEarlierBlock (b + 1)) u v w x y (block_before b)
       (λ m is of. elim (cases_lt m.binding.block b) [ inl less ↦ inl less | inr past ↦ inr (omega (arith, of, past)) ])
       (λ m of. omega (arith, of))
       (λ m of. omega (arith, of))
 
-  pub whole_function : (b : ℕ) (u w : Verdicts) (any : Bool) → AreReady rules → length f.blocks ≤ b → AsksAll rules conflicts f (IsInEarlierBlock b) u w any → AsksAll rules conflicts f IsAnywhere u w any
+  pub whole_function : (b : ℕ) (u w : Verdicts) (any : Bool) → AreReady rules → length f.blocks ≤ b → AsksAll across rules conflicts f (IsInEarlierBlock b) u w any → AsksAll across rules conflicts f IsAnywhere u w any
   whole_function b u w any ready past = told_by (IsInEarlierBlock b) IsAnywhere u w any within (λ m of. tt)
     where
-      within : (m : Match) → IsMatchAmong rules f m → IsAnywhere m → IsInEarlierBlock b m
+      within : (m : Match) → IsMatchAmong across rules f m → IsAnywhere m → IsInEarlierBlock b m
       within m is of =
           let root = root_stands rules f m ready is in
           let less : m.binding.block < length f.blocks = slice_get_within f.blocks m.binding.block root.is_inst.block root.is_inst.is_block in
@@ -145,7 +145,7 @@ module _ (rules : List Rule) (conflicts : ℕ) (f : Function) where
 
   -- ---- all instructions before a place, in any block
 
-  pub nothing_past : (v : Verdicts) → AsksAll rules conflicts f (IsPast 0 0) v v false
+  pub nothing_past : (v : Verdicts) → AsksAll across rules conflicts f (IsPast 0 0) v v false
   nothing_past v = asks_none (IsPast 0 0) v (λ m is past. elim past [ inl block ↦ omega (arith, block) | inr place ↦ omega (arith, place.1) ])
 
   past_before : (b k : ℕ) (m n : Match) → IsPast b k m → IsAt b k n → ComesBefore m n
@@ -160,20 +160,20 @@ module _ (rules : List Rule) (conflicts : ℕ) (f : Function) where
   past_on : (b k : ℕ) (m : Match) → IsPast b k m → IsPast b (k + 1) m
   past_on b k m past = elim past [ inl block ↦ inl block | inr place ↦ inr (place.0, omega (arith, place.1)) ]
 
-  pub past_place : (b k : ℕ) (u v w : Verdicts) → AsksAll rules conflicts f (IsPast b k) u v false → AsksAll rules conflicts f (IsAt b k) v w false
-      → AsksAll rules conflicts f (IsPast b (k + 1)) u w false
+  pub past_place : (b k : ℕ) (u v w : Verdicts) → AsksAll across rules conflicts f (IsPast b k) u v false → AsksAll across rules conflicts f (IsAt b k) v w false
+      → AsksAll across rules conflicts f (IsPast b (k + 1)) u w false
   past_place b k u v w = both (IsPast b k) (IsAt b k) (IsPast b (k + 1)) u v w false false (past_before b k) split (past_on b k) (past_here b k)
     where
-      split : (m : Match) → IsMatchAmong rules f m → IsPast b (k + 1) m → IsPast b k m ⊎ IsAt b k m
+      split : (m : Match) → IsMatchAmong across rules f m → IsPast b (k + 1) m → IsPast b k m ⊎ IsAt b k m
       split m is past = elim past [
         | inl block ↦ inl (inl block)
         | inr place ↦ elim (cases_lt m.binding.place k) [ inl less ↦ inl (inr (place.0, less)) | inr late ↦ inr (place.0, omega (arith, place.1, late)) ]
       ]
 
-  pub past_block : (b k : ℕ) (u w : Verdicts) → AreReady rules → end_of f b ≤ k → AsksAll rules conflicts f (IsPast b k) u w false → AsksAll rules conflicts f (IsPast (b + 1) 0) u w false
+  pub past_block : (b k : ℕ) (u w : Verdicts) → AreReady rules → end_of f b ≤ k → AsksAll across rules conflicts f (IsPast b k) u w false → AsksAll across rules conflicts f (IsPast (b + 1) 0) u w false
   past_block b k u w ready end = told_by (IsPast b k) (IsPast (b + 1) 0) u w false within on
     where
-      within : (m : Match) → IsMatchAmong rules f m → IsPast (b + 1) 0 m → IsPast b k m
+      within : (m : Match) → IsMatchAmong across rules f m → IsPast (b + 1) 0 m → IsPast b k m
       within m is past = elim past [
         | inr place ↦ absurd (omega (arith, place.1))
         | inl block ↦ elim (cases_lt m.binding.block b) [
@@ -189,17 +189,17 @@ module _ (rules : List Rule) (conflicts : ℕ) (f : Function) where
       on : (m : Match) → IsPast b k m → IsPast (b + 1) 0 m
       on m past = elim past [ inl block ↦ inl (omega (arith, block)) | inr place ↦ inl (omega (arith, place.0)) ]
 
-  pub past_all : (b k : ℕ) (u w : Verdicts) → AreReady rules → length f.blocks ≤ b → AsksAll rules conflicts f (IsPast b k) u w false → AsksAll rules conflicts f IsAnywhere u w false
+  pub past_all : (b k : ℕ) (u w : Verdicts) → AreReady rules → length f.blocks ≤ b → AsksAll across rules conflicts f (IsPast b k) u w false → AsksAll across rules conflicts f IsAnywhere u w false
   past_all b k u w ready end = told_by (IsPast b k) IsAnywhere u w false within (λ m past. tt)
     where
-      within : (m : Match) → IsMatchAmong rules f m → IsAnywhere m → IsPast b k m
+      within : (m : Match) → IsMatchAmong across rules f m → IsAnywhere m → IsPast b k m
       within m is anywhere =
           let root = root_stands rules f m ready is in
           let less : m.binding.block < length f.blocks = slice_get_within f.blocks m.binding.block root.is_inst.block root.is_inst.is_block in
           inl (omega (arith, less, end))
 
-  pub past_first : (b k : ℕ) (chosen : Match) (u v w : Verdicts) → AsksAll rules conflicts f (IsPast b k) u v false → AsksUpTo rules conflicts f (IsAt b k) v w chosen
-      → AsksUpTo rules conflicts f IsAnywhere u w chosen
+  pub past_first : (b k : ℕ) (chosen : Match) (u v w : Verdicts) → AsksAll across rules conflicts f (IsPast b k) u v false → AsksUpTo across rules conflicts f (IsAt b k) v w chosen
+      → AsksUpTo across rules conflicts f IsAnywhere u w chosen
   past_first b k chosen u v w first later = ends (IsPast b k) (IsAt b k) IsAnywhere chosen u v w (past_before b k) split (λ m past. tt) (λ m of. tt) first later
     where
       split : (m : Match) → IsAnywhere m → ComesBefore m chosen → IsPast b k m ⊎ IsAt b k m
@@ -219,7 +219,7 @@ module _ (rules : List Rule) (conflicts : ℕ) (f : Function) where
       let (row, has, pair, other) = All-contains (IsTurnedDown v.table) ms m down among in
       subst (Contains (map pair_in v.table)) (pair ∙ sym is) (Contains-map pair_in v.table row has)
 
-  pub asks_again : (P : Match → Type 0) (ms : List Match) (v : Verdicts) → AreMatchesWhere rules f P ms → All (IsTurnedDown v.table) ms → AsksAll rules conflicts f P v v false
+  pub asks_again : (P : Match → Type 0) (ms : List Match) (v : Verdicts) → AreMatchesWhere across rules f P ms → All (IsTurnedDown v.table) ms → AsksAll across rules conflicts f P v v false
   asks_again P ms v are down = record {
     matches = ms;
     are_matches = are;

@@ -14,13 +14,13 @@ all_more : {X : Type 0} (P : X → Type 0) (xs : List X) (x : X) → All P xs �
 all_more P xs x all one = All-append P xs (x ∷ []) all (All-cons P x [] one (All-nil P))
 
 -- a match is of a rule that the reader gave, at a typing of it
-pub match_at : {Before : ℕ → ℕ → Type 0} {known : Knowledge} (rules : List Rule) (f : Function) (ms : List Match) (k : ℕ) (m : Match) → All (MatchesAmong Before known rules f) ms → k < length ms → m ≡ get_or ms k m → MatchesAmong Before known rules f m
+pub match_at : {Before : ℕ → ℕ → ℕ → ℕ → Type 0} {known : Knowledge} (rules : List Rule) (f : Function) (ms : List Match) (k : ℕ) (m : Match) → All (MatchesAmong Before known rules f) ms → k < length ms → m ≡ get_or ms k m → MatchesAmong Before known rules f m
 match_at {Before} {known} rules f ms k m all within is = subst (MatchesAmong Before known rules f) (sym is) (all k m within)
 
-pub rule_within : {Before : ℕ → ℕ → Type 0} {known : Knowledge} (rules : List Rule) (f : Function) (m : Match) → MatchesAmong Before known rules f m → m.rule < length rules
+pub rule_within : {Before : ℕ → ℕ → ℕ → ℕ → Type 0} {known : Knowledge} (rules : List Rule) (f : Function) (m : Match) → MatchesAmong Before known rules f m → m.rule < length rules
 rule_within rules f m is = slice_get_within rules m.rule is.rule is.is_rule
 
-pub rule_of : {Before : ℕ → ℕ → Type 0} {known : Knowledge} (rules : List Rule) (f : Function) (m : Match) → AreReady rules → MatchesAmong Before known rules f m → (rule : Rule) → slice_get rules m.rule ≡ Some rule → IsRule rule × IsTyping rule m.binding.typing
+pub rule_of : {Before : ℕ → ℕ → ℕ → ℕ → Type 0} {known : Knowledge} (rules : List Rule) (f : Function) (m : Match) → AreReady rules → MatchesAmong Before known rules f m → (rule : Rule) → slice_get rules m.rule ≡ Some rule → IsRule rule × IsTyping rule m.binding.typing
 rule_of rules f m ready is rule at = ((ready m.rule rule at).checks, subst (λ (r : Rule). IsTyping r m.binding.typing) (same_Some is.rule rule (sym is.is_rule ∙ at)) is.matches.typing)
 
 -- one more match is asked behind others

@@ -37,26 +37,26 @@ pub record IsUnasked (old new : Verdicts) : Type 0 where
   pub pairs : new.pairs.keys ≡ old.pairs.keys
   pub logs : new.logs ≡ old.logs
 
--- ---- searches through those matches of a function of which P holds
+-- ---- searches through those matches of a function, inside blocks or across blocks, of which P holds
 
 -- any match of the function
 abbrev pub IsAnywhere : Match → Type 0
 IsAnywhere m = Unit {0}
 
 -- the verdicts of all are asked, in order; `any` says whether one of them is admitted
-pub record AsksAll (rules : List Rule) (conflicts : ℕ) (f : Function) (P : Match → Type 0) (old new : Verdicts) (any : Bool) : Type 0 where
+pub record AsksAll (across : Bool) (rules : List Rule) (conflicts : ℕ) (f : Function) (P : Match → Type 0) (old new : Verdicts) (any : Bool) : Type 0 where
   pub matches : List Match
-  pub are_matches : AreMatchesWhere rules f P matches
+  pub are_matches : AreMatchesWhere across rules f P matches
   pub asks : Asks rules conflicts (map pair_of matches) old new
   pub answer : MatchBool any (Any (IsAdmitted new.table) matches) (All (IsTurnedDown new.table) matches)
 
 -- the verdicts of those before this match are asked, in order, and are turned down; then that of this one, which is
 -- admitted
-pub record AsksUpTo (rules : List Rule) (conflicts : ℕ) (f : Function) (P : Match → Type 0) (old new : Verdicts) (chosen : Match) : Type 0 where
-  pub is_match : IsMatchAmong rules f chosen
+pub record AsksUpTo (across : Bool) (rules : List Rule) (conflicts : ℕ) (f : Function) (P : Match → Type 0) (old new : Verdicts) (chosen : Match) : Type 0 where
+  pub is_match : IsMatchAmong across rules f chosen
   pub holds : P chosen
   pub passed : List Match
-  pub are_before : AreMatchesWhere rules f (λ m. P m × ComesBefore m chosen) passed
+  pub are_before : AreMatchesWhere across rules f (λ m. P m × ComesBefore m chosen) passed
   pub asks : Asks rules conflicts (map pair_of (passed ++ chosen ∷ [])) old new
   pub turned_down : All (IsTurnedDown new.table) passed
   pub admitted : IsAdmitted new.table chosen

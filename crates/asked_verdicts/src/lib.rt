@@ -1,5 +1,5 @@
-//! The verdicts that matches ask for: each pair of a rule and a typing is decided once, when it is first asked for, by a
-//! stored log, if that proves the rule, and else by a search.
+//! The verdicts that matches ask for: each pair of a rule and a typing is decided once, when it is first asked for, by
+//! a stored log, if that proves the rule, and else by a search.
 //!
 //! `specs/Asks` says what one search through matches asks, and what is kept; `Stored` which log is stored for a pair;
 //! `AskedAgain` that asking again changes nothing. Which verdicts matches ask for stands in `Asked` of `strategy_core`.

@@ -1,7 +1,7 @@
 //! Searches for an admitted match, among some matches and in a function, instruction by instruction: no more matches
 //! are held in memory than those at one instruction.
 
-ghost use Rattle.std.specs.Prelude.{◌≡◌, ◌+◌, ◌<◌, ◌≤◌, ◌^◌, map, length, take, All, Any, IsTrue, MatchBool, IfOk, OnOk};
+ghost use Rattle.std.specs.Prelude.{◌≡◌, ◌+◌, ◌<◌, ◌≤◌, ◌^◌, Bool, map, length, take, All, Any, IsTrue, MatchBool, IfOk, OnOk};
 ghost use Rattle.ir_core.specs.Blocks.{HasInst};
 ghost use Rattle.ir_core.specs.Checks.{IsFormed, IsInst, MeetsChecks};
 ghost use Rattle.ir_core.specs.declared.function.Function.{Function as FunctionSearched};
@@ -34,7 +34,7 @@ pub fn first_admitted(
     conflicts: u32,
 ) -> Result<Option<usize>, AllocError>
     requires ready { AreReady rules.now }
-    requires matches { (known : Knowledge) × (f : FunctionSearched) × All (IsMatchInAnyOrder known rules.now f) matches.now }
+    requires matches { (across : Bool) × (known : Knowledge) × (f : FunctionSearched) × All (IsMatchInAnyOrder across known rules.now f) matches.now }
     requires conflicts { conflicts ≤ most_conflicts }
     requires verdicts { AreVerdicts rules.now conflicts verdicts.old }
     ensures { IfOk result (AsksToPlace rules.now conflicts matches.now verdicts.old verdicts.new) }
@@ -62,7 +62,7 @@ pub fn any_admitted(
     requires by_root { AreByRoot rules.now.all.now rules.now.by_root.now }
     requires conflicts { conflicts ≤ most_conflicts }
     requires verdicts { AreVerdicts rules.now.all.now conflicts verdicts.old }
-    ensures { IfOk result (AsksAll rules.now.all.now conflicts f.now IsAnywhere verdicts.old verdicts.new) }
+    ensures { IfOk result (AsksAll rules.now.across rules.now.all.now conflicts f.now IsAnywhere verdicts.old verdicts.new) }
 {
     let facts = FunctionFacts::of(alloc, f)?;
     let asks = ask_bits(rules.all);
@@ -74,8 +74,8 @@ pub fn any_admitted(
     Ok(any)
 }
 
-/// Whether a match in a block is admitted; asks for the verdicts of all in it. Where a rule asks for bits, what is known
-/// of the results is found on the way.
+/// Whether a match in a block is admitted; asks for the verdicts of all in it. Where a rule asks for bits, what is
+/// known of the results is found on the way.
 fn any_in_block(
     alloc: Global,
     f: &Function,
@@ -95,7 +95,7 @@ fn any_in_block(
     requires block { block < length f.now.blocks }
     requires conflicts { conflicts ≤ most_conflicts }
     requires verdicts { AreVerdicts rules.now.all.now conflicts verdicts.old }
-    ensures { IfOk result (AsksAll rules.now.all.now conflicts f.now (IsInBlock block) verdicts.old verdicts.new) }
+    ensures { IfOk result (AsksAll rules.now.across rules.now.all.now conflicts f.now (IsInBlock block) verdicts.old verdicts.new) }
 {
     let mut known = Facts {
         block,
@@ -154,7 +154,7 @@ fn any_of(
     conflicts: u32,
 ) -> Result<bool, AllocError>
     requires ready { AreReady rules.now }
-    requires matches { (f : FunctionSearched) × All (IsMatchAmong rules.now f) matches.now }
+    requires matches { (across : Bool) × (f : FunctionSearched) × All (IsMatchAmong across rules.now f) matches.now }
     requires conflicts { conflicts ≤ most_conflicts }
     requires verdicts { AreVerdicts rules.now conflicts verdicts.old }
     ensures asks { OnOk result (Asks rules.now conflicts (map pair_of matches.now) verdicts.old verdicts.new) }

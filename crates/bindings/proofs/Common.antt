@@ -1,10 +1,10 @@
 -- What the proofs of this crate cite of definitions, of other crates and of the libraries, passed on from one place.
 pub use Rattle.std.proofs.Common.{Bool, Bor, Contains, IfNone, IfSome, IsTrue, List, None, Option, Some, [], ap, arith, below_more, false, flat_map, get_or, get_or-set_other, get_or-set_same, inl, inr, length, map, option_and_then, option_map, pos, refl, rules, slice_get, slice_set, subst, suc, sym, take, true, zero, ℕ, ◌&&◌, ◌++◌, ◌+◌, ◌-◌, ◌<◌, ◌↔◌, ◌∙◌, ◌∷◌, ◌≡◌, ◌≢◌, ◌≤◌, ◌⊎◌}
-pub use Rattle.bindings.specs.Checks.{IsMet, IsRootOperation, MatchesAt}
+pub use Rattle.bindings.specs.Checks.{IsBoundInScope, IsMet, IsRootOperation, MatchesAt}
 pub use Rattle.bindings.specs.Facts.{AreFactsOf}
 pub use Rattle.bindings.specs.Known.{AsksBitsOf, FactFollows, Knowledge, SaysOf, known_by, known_in, number_of_term, operand_for}
-pub use Rattle.bindings.specs.Laws.{ReadsStandBefore, TemporariesStandBefore}
-pub use Rattle.bindings.specs.Match.{IsMatch, MatchesInAnyOrder, MatchesWhere}
+pub use Rattle.bindings.specs.Laws.{MatchedInstsAreReached, NamedRegistersAreAssigned, OperandsAreAssigned, ReadsStandBefore, TemporariesStandBefore}
+pub use Rattle.bindings.specs.Match.{IsAvailable, IsInScope, IsMatch, MatchesInAnyOrder, MatchesWhere}
 pub use Rattle.bindings.specs.Nodes.{Has, HasExactly, HasOperandOf, IsTemporaryWidth, NamesAmong, OneNamesAmong}
 pub use Rattle.bindings.specs.Operands.{OperandMatches, StandsFor}
 pub use Rattle.bindings.specs.Promises.{AreKept}
@@ -18,15 +18,15 @@ pub use Rattle.ir_core.specs.Blocks.{HasInst, IsBlock}
 pub use Rattle.ir_core.specs.Checks.{IsInst, IsPhi, MeetsChecks}
 pub use Rattle.ir_core.specs.Names.{width_of}
 pub use Rattle.ir_core.specs.Reads.{IsRead, Read, read, reads_at, reads_by, reads_in, reads_of}
-pub use Rattle.ir_core.specs.Walks.{IsReached}
+pub use Rattle.ir_core.specs.Walks.{IsReached, IsWalk}
 pub use Rattle.ir_core.specs.declared.function.Block.{Block}
 pub use Rattle.ir_core.specs.declared.function.Function.{Function}
 pub use Rattle.ir_core.specs.declared.instruction.Inst.{Inst}
 pub use Rattle.ir_core.specs.declared.instruction.Op.{Op}
 pub use Rattle.ir_core.specs.declared.operand.Operand.{Operand}
 pub use Rattle.ir_core.specs.declared.operand.Register.{Register}
-pub use Rattle.ir_meaning.proofs.Pieces.{contains_at, place_in, some_at}
-pub use Rattle.ir_meaning.specs.Assignments.{NotBothAreAssigned}
+pub use Rattle.ir_meaning.proofs.Pieces.{cases_in, contains_at, not_in_empty, place_in}
+pub use Rattle.ir_meaning.specs.Assignments.{AssignmentIsTransitive, NotBothAreAssigned}
 pub use Rattle.known_bits.specs.declared.words.Known.{Known}
 pub use Rattle.needed.proofs.Reading.{own_place}
 pub use Rattle.ops.proofs.FlagSets.{both, flags_equal}

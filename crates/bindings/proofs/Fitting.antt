@@ -31,14 +31,14 @@ abbrev pub AllMatch : Function → Rule → Binding → Type 0
 AllMatch f rule binding = (j : ℕ) (s : Statement) → slice_get rule.source j ≡ Some s → StatementMatches f rule binding j s
 
 -- the operand of an instruction that an operand of the source matches
-pub record Met (f : Function) (binding : Binding) (o : RuleOperand) (k i : ℕ) : Type 0 where
+pub record Met (f : Function) (binding : Binding) (o : RuleOperand) (b k i : ℕ) : Type 0 where
   pub read : Read
-  pub is_read : IsRead f binding.block k i read
+  pub is_read : IsRead f b k i read
   pub matches : OperandMatches binding o read
 
-pub met_at : (f : Function) (rule : Rule) (binding : Binding) (j : ℕ) (s : Statement) → (m : StatementMatches f rule binding j s) → (i : ℕ) (o : RuleOperand) → slice_get (operands_of s.op) i ≡ Some o → Met f binding o m.place i
+pub met_at : (f : Function) (rule : Rule) (binding : Binding) (j : ℕ) (s : Statement) → (m : StatementMatches f rule binding j s) → (i : ℕ) (o : RuleOperand) → slice_get (operands_of s.op) i ≡ Some o → Met f binding o m.block m.place i
 met_at f rule binding j s m i o at =
-    let (r, is) = is_read f binding.block m.place m.inst s.op m.is_inst m.matches.operation i o at in
+    let (r, is) = is_read f m.block m.place m.inst s.op m.is_inst m.matches.operation i o at in
     record { read = r; is_read = is; matches = m.matches.operands i o r at is }
 
 -- the number of a constant, where an instruction reads it

@@ -27,7 +27,7 @@ module _ (rule : Rule) (known known' : Operand → Known) (m m' : Binding) (numb
   facts_follow (formulas.Or a b) among follows = tt
 
 -- where as much is known, a match stays one
-pub known_too : {Before : ℕ → ℕ → Type 0} {known : Knowledge} (known' : Knowledge) (f : Function) (b k : ℕ) (rule : Rule) (m : Binding)
+pub known_too : {Before : ℕ → ℕ → ℕ → ℕ → Type 0} {known : Knowledge} (known' : Knowledge) (f : Function) (b k : ℕ) (rule : Rule) (m : Binding)
     → ((r : Name) (x : Operand) → AsksBitsOf rule r → operand_for m r ≡ Some x → known b k x ≡ known' b k x) → MatchesWhere Before known f b k rule m → MatchesWhere Before known' f b k rule m
 known_too {known = known} known' f b k rule m as_much is = record {
   block = is.block;

@@ -11,3 +11,4 @@ pub mod Knowing
 pub mod Roots
 pub mod Before
 pub mod TemporariesBefore
+pub mod Reached

@@ -68,10 +68,10 @@ OneNamesTemporary terms operands = (o : RuleOperand) × Contains operands o × N
 abbrev pub TargetNamesTemporary : Rule → Type 0
 TargetNamesTemporary rule = OneNamesTemporary rule.terms (operands_among rule.target)
 
--- instruction k of the binding's block matches source statement j, which is this one
-pub record InstMatches (f : Function) (rule : Rule) (binding : Binding) (j : ℕ) (s : Statement) (k : ℕ) (inst : Inst) : Type 0 where
+-- instruction k of block b matches source statement j, which is this one
+pub record InstMatches (f : Function) (rule : Rule) (binding : Binding) (j : ℕ) (s : Statement) (b k : ℕ) (inst : Inst) : Type 0 where
   -- the root's instruction is the one at which the match is
-  pub root : suc j ≡ length rule.source → k ≡ binding.place
+  pub root : suc j ≡ length rule.source → (b ≡ binding.block) × (k ≡ binding.place)
   -- the same opcode, predicate, intrinsic or cast
   pub operation : IsSameOperation s.op inst.op
   -- it has at least the statement's flags; a temporary's has no others where the target names a temporary
@@ -79,12 +79,13 @@ pub record InstMatches (f : Function) (rule : Rule) (binding : Binding) (j : ℕ
   pub no_more_flags : suc j < length rule.source → TargetNamesTemporary rule → promises_of_inst inst.op ≡ promises_of_statement s.op
   -- the width of the result, and the operands from left to right
   pub width : slice_get binding.typing s.class ≡ Some inst.width
-  pub operands : (i : ℕ) (o : RuleOperand) (r : Read) → slice_get (operands_of s.op) i ≡ Some o → IsRead f binding.block k i r → OperandMatches binding o r
+  pub operands : (i : ℕ) (o : RuleOperand) (r : Read) → slice_get (operands_of s.op) i ≡ Some o → IsRead f b k i r → OperandMatches binding o r
 
--- source statement j is this one, and is bound to an instruction of the root's block, which it matches
+-- source statement j is this one, and is bound to an instruction, which it matches
 pub record StatementMatches (f : Function) (rule : Rule) (binding : Binding) (j : ℕ) (s : Statement) : Type 0 where
+  pub block : ℕ
   pub place : ℕ
   pub inst : Inst
-  pub bound : slice_get binding.statements j ≡ Some (registers.Result binding.block place)
-  pub is_inst : IsInst f binding.block place inst
-  pub matches : InstMatches f rule binding j s place inst
+  pub bound : slice_get binding.statements j ≡ Some (registers.Result block place)
+  pub is_inst : IsInst f block place inst
+  pub matches : InstMatches f rule binding j s block place inst

@@ -7,7 +7,7 @@ ghost use Rattle.rule_core.specs.Valid.{ConstantsFit};
 ghost use Rattle.rule_core.specs.declared.rule.Formula.{Formula as Asked};
 ghost use Rattle.rule_core.specs.declared.rule.Statement.{Statement as SourceStatement};
 ghost use Rattle.rule_typing.specs.Classes.{IsClassified};
-ghost use Rattle.bindings.specs.Checks.{IsMet, MatchesAt};
+ghost use Rattle.bindings.specs.Checks.{IsBoundInScope, IsMet, MatchesAt};
 ghost use Rattle.bindings.specs.Facts.{AreFactsOf};
 ghost use Rattle.ir_core.specs.declared.operand.Register.{Register};
 ghost use Rattle.use_counts.specs.Tables.{count_of};
@@ -33,27 +33,31 @@ use rule_core::{Formula, Op, Rule};
 use rule_typing::is_typing;
 use use_counts::uses_of;
 
-/// Whether the rule matches with this binding at the instruction that the binding names, where this is known of the
-/// results of its block. The order of the instructions in the block is not asked for, as their index in a draft's arena
-/// doesn't tell it.
+/// Whether the rule matches with this binding at the instruction that the binding names, inside its block or across
+/// blocks, where this is known of the results of its block. The order of instructions is not asked for, as their index
+/// in a draft's arena doesn't tell it.
 pub fn is_match(
     f: &Function,
     facts: &FunctionFacts,
     known: &Facts,
     rule: &Rule,
     binding: &Binding,
+    across: bool,
 ) -> bool
     requires insts { All (λ b. length b.insts < 2 ^ 32) f.now.blocks }
     requires facts { AreFactsOf f.now facts.now }
     requires few { All (λ bits. length bits ≤ 64) known.now.results }
     requires rule { IsRule rule.now }
     requires classes { IsClassified rule.now }
-    ensures { IsTrue result ↔ MatchesInAnyOrder (known_by known.now) f.now binding.now.block binding.now.place rule.now binding.now }
+    ensures { IsTrue result ↔ MatchesInAnyOrder across (known_by known.now) f.now binding.now.block binding.now.place rule.now binding.now }
 {
     if !facts.flow.reached(binding.block) || !has_sizes(rule, binding) {
         return false;
     }
-    if !statements_match(f, rule, binding) || has_undef(binding.inputs.as_slice()) {
+    if !are_in_scope(binding, across) || !statements_match(f, rule, binding) {
+        return false;
+    }
+    if has_undef(binding.inputs.as_slice()) {
         return false;
     }
     if !is_typing(rule, &binding.typing) || !holds(rule, &binding.typing, &binding.constants) {
@@ -71,6 +75,28 @@ fn has_sizes(rule: &Rule, binding: &Binding) -> bool
     binding.statements.len() == rule.source.len()
         && binding.inputs.len() == rule.inputs.len()
         && binding.constants.len() == rule.constants.len()
+}
+
+/// Whether the statements are bound to instructions of the binding's block, or may be bound across blocks.
+fn are_in_scope(binding: &Binding, across: bool) -> bool
+    ensures { IsTrue result ↔ ((r : Register) → Contains binding.now.statements r → IsBoundInScope across binding.now r) }
+{
+    for register in binding.statements.as_slice() {
+        if !is_in_scope(binding, across, *register) {
+            return false;
+        }
+    }
+    true
+}
+
+/// The same for one statement, which is bound to this register.
+fn is_in_scope(binding: &Binding, across: bool, register: Register) -> bool
+    ensures { IsTrue result ↔ IsBoundInScope across binding.now register }
+{
+    match register {
+        Register::Result(block, _) => across || block == binding.block,
+        Register::Parameter(_) => true,
+    }
 }
 
 /// Whether each statement of the source matches the instruction that it is bound to.
@@ -101,22 +127,20 @@ fn statement_matches(f: &Function, rule: &Rule, binding: &Binding, exact: bool, 
     let Register::Result(block, place) = binding.statements.as_slice()[j] else {
         return false;
     };
-    if block != binding.block {
-        return false;
-    }
     match inst_at(f, block, place) {
-        Some(inst) => inst_matches(f, rule, binding, exact, j, place, inst),
+        Some(inst) => inst_matches(f, rule, binding, exact, j, block, place, inst),
         None => false,
     }
 }
 
-/// Whether an instruction of the binding's block matches a statement of the source.
+/// Whether an instruction matches a statement of the source.
 fn inst_matches(
     f: &Function,
     rule: &Rule,
     binding: &Binding,
     exact: bool,
     j: usize,
+    block: u32,
     place: u32,
     inst: &Inst,
 ) -> bool
@@ -124,11 +148,11 @@ fn inst_matches(
     requires place { j < length rule.now.source }
     requires exact { IsTrue exact ↔ TargetNamesTemporary rule.now }
     ensures { (s : SourceStatement) → slice_get rule.now.source j ≡ Some s
-        → IsTrue result ↔ InstMatches f.now rule.now binding.now j s place inst.now }
+        → IsTrue result ↔ InstMatches f.now rule.now binding.now j s block place inst.now }
 {
     let statement = &rule.source.as_slice()[j];
     let is_root = is_root(rule, j);
-    if !stands_well(binding, is_root, place) {
+    if !stands_well(binding, is_root, block, place) {
         return false;
     }
     if !is_same_operation(statement.op, &inst.op) {
@@ -140,14 +164,14 @@ fn inst_matches(
     if !has_width(binding, statement.class, inst.width) {
         return false;
     }
-    operands_match(f, binding, &statement.op, binding.block, place)
+    operands_match(f, binding, &statement.op, block, place)
 }
 
 /// Whether the statement is no root, or its instruction is the one at which the match is.
-fn stands_well(binding: &Binding, is_root: bool, place: u32) -> bool
-    ensures { IsTrue result ↔ (IsTrue is_root → place ≡ binding.now.place) }
+fn stands_well(binding: &Binding, is_root: bool, block: u32, place: u32) -> bool
+    ensures { IsTrue result ↔ (IsTrue is_root → (block ≡ binding.now.block) × (place ≡ binding.now.place)) }
 {
-    !is_root || place == binding.place
+    !is_root || (block == binding.block && place == binding.place)
 }
 
 /// Whether an instruction has the statement's flags; and, where `exact` asks for it and the statement is no root, no
@@ -230,8 +254,8 @@ fn are_met(facts: &FunctionFacts, known: &Facts, rule: &Rule, binding: &Binding)
     true
 }
 
-/// Whether the register that a node asks one use of, if it does, has one, and what it says of bits, if it does, is known
-/// of them.
+/// Whether the register that a node asks one use of, if it does, has one, and what it says of bits, if it does, is
+/// known of them.
 fn is_met(
     facts: &FunctionFacts,
     known: &Facts,

@@ -24,8 +24,8 @@ module _ (f new : Function) (rule : Rule) (binding : Binding) (checked : IsRule 
   pub blocks_new : length new.blocks ≡ length f.blocks
   blocks_new = subst (λ (g : Function). length g.blocks ≡ length f.blocks) (sym is.is) (as_many_rewritten w f)
 
-  pub checks_new : MeetsChecks f → NumbersFit f → IsMatch f binding.block binding.place rule binding → MeetsChecks new
-  checks_new meets numbers match =
+  pub checks_new : (across : Bool) → MeetsChecks f → NumbersFit f → IsMatch across f binding.block binding.place rule binding → MeetsChecks new
+  checks_new across meets numbers match =
       subst (λ (g : Function). MeetsChecks g) (sym is.is)
       (meets_checks f w is.root meets (rewrite_fits f binding.block binding.place rule binding checked meets numbers match is.root is.is_root))
 

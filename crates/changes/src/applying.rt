@@ -1,6 +1,6 @@
 //! Rules applied to functions, with the instructions that were removed, inserted and changed.
 
-ghost use Rattle.std.specs.Prelude.{◌≡◌, ◌+◌, ◌-◌, ◌<◌, ◌≤◌, ◌^◌, ◌↔◌, ℕ, length, true, false, All, Some, IfOk, OnOk, OnErr};
+ghost use Rattle.std.specs.Prelude.{◌≡◌, ◌+◌, ◌-◌, ◌<◌, ◌≤◌, ◌^◌, ◌↔◌, ℕ, Bool, length, true, false, All, Some, IfOk, OnOk, OnErr};
 ghost use Rattle.ir_core.specs.Blocks.{HasInst, IsBlock};
 ghost use Rattle.ir_core.specs.Checks.{IsInst, MeetsChecks};
 ghost use Rattle.ir_core.specs.declared.function.Block.{Block};
@@ -61,7 +61,8 @@ pub fn apply_at(
 ) -> Result<Changes, AllocError>
     requires rule { IsRule rule.now }
     requires checks { MeetsChecks f.old }
-    requires matches { IsMatch f.old binding.now.block binding.now.place rule.now binding.now }
+    // It matches inside the root's block, or across blocks.
+    requires matches { (across : Bool) × IsMatch across f.old binding.now.block binding.now.place rule.now binding.now }
 
     // Numbers are of their widths.
     requires numbers { NumbersFit f.old }

@@ -27,7 +27,7 @@ verify_plain = (record { first = refl; plain = refl }, (record { first = refl; p
 
 optimise_plain : ArePlain optimise_leaf.rules
 unfolding clap_on_literals
-optimise_plain = (record { first = refl; plain = refl }, (record { first = refl; plain = refl }, (record { first = refl; plain = refl }, (record { first = refl; plain = refl }, (record { first = refl; plain = refl }, (record { first = refl; plain = refl }, (record { first = refl; plain = refl }, tt)))))))
+optimise_plain = (record { first = refl; plain = refl }, (record { first = refl; plain = refl }, (record { first = refl; plain = refl }, (record { first = refl; plain = refl }, (record { first = refl; plain = refl }, (record { first = refl; plain = refl }, (record { first = refl; plain = refl }, (record { first = refl; plain = refl }, tt))))))))
 
 run_plain : ArePlain run_leaf.rules
 unfolding clap_on_literals
@@ -71,12 +71,14 @@ optimise_values words ok =
     let conflicts = values.1.1.0 refl in
     let steps = values.1.1.1.0 refl in
     let fold = values.1.1.1.1.1.0 refl in
+    let across = values.1.1.1.1.1.1.0 refl in
     record {
       rules_file = ap is_some rules.first;
       module_file = ap is_some module_file.first;
       most_conflicts = (conflicts.text, conflicts.first, conflicts.one, accepts-Accepts false (Unsigned 0 most_conflicts) conflicts.text conflicts.pass);
       most_steps = (steps.text, steps.first, steps.one, accepts-Accepts false (Unsigned 0 most_steps) steps.text steps.pass);
       asks_fold = truth_of (rows_after optimise_leaf.rules [] words) (codes "fold") fold.text fold.first fold.one fold.pass;
+      asks_across = truth_of (rows_after optimise_leaf.rules [] words) (codes "across") across.text across.first across.one across.pass;
     }
 
 run_values : (words : List Text) → pass.level_passes run_leaf [] nothing_held words false ≡ true → HasRun (rows_after run_leaf.rules [] words)

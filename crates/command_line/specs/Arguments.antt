@@ -34,6 +34,7 @@ pub record HasOptimise (rows : List Row) : Type 0 where
   pub most_conflicts : HasNumberUpTo most_conflicts rows (codes "conflicts")
   pub most_steps : HasNumberUpTo most_steps rows (codes "steps")
   pub asks_fold : HasTruth rows (codes "fold")
+  pub asks_across : HasTruth rows (codes "across")
 
 pub record HasRun (rows : List Row) : Type 0 where
   pub module_file : HasValue rows (codes "module")

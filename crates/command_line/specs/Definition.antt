@@ -70,16 +70,19 @@ logs_option = optional_argument (codes "logs")
 abbrev pub fold_flag : Rule
 fold_flag = flag_argument (codes "fold")
 
+abbrev pub across_flag : Rule
+across_flag = flag_argument (codes "across")
+
 -- `verify RULES [--widths LIST] [--conflicts N] [--logs]`
 abbrev pub verify_shape : Shape
 verify_shape = record (new_shape (codes "verify")) {
   rules = rules_argument ∷ widths_argument ∷ conflicts_argument ∷ logs_flag ∷ [];
 }
 
--- `optimise RULES MODULE [--conflicts N] [--steps N] [--logs LOGS] [--fold]`
+-- `optimise RULES MODULE [--conflicts N] [--steps N] [--logs LOGS] [--fold] [--across]`
 abbrev pub optimise_shape : Shape
 optimise_shape = record (new_shape (codes "optimise")) {
-  rules = rules_argument ∷ module_argument ∷ conflicts_argument ∷ steps_argument ∷ logs_option ∷ fold_flag ∷ [];
+  rules = rules_argument ∷ module_argument ∷ conflicts_argument ∷ steps_argument ∷ logs_option ∷ fold_flag ∷ across_flag ∷ [];
 }
 
 -- `run [--blocks N] MODULE NAME [ARG..]`

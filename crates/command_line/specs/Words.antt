@@ -58,6 +58,7 @@ pub record SaysOptimise (rows : List Row) (rules source : Text) (logs : Option T
   pub most_steps : HasNumber rows (codes "steps") options.steps
   pub logs_file : MayHaveText rows (codes "logs") logs
   pub asks_fold : HasFlag rows (codes "fold") options.fold
+  pub asks_across : HasFlag rows (codes "across") options.across
 
 -- the words say `run`, with these arguments
 pub record SaysRun (rows : List Row) (source name : Text) (arguments : List Text) (options : RunOptions) : Type 0 where

@@ -60,6 +60,8 @@ pub struct OptimiseOptions {
     pub steps: u32,
     /// Whether branches on numbers are folded.
     pub fold: bool,
+    /// Whether what a rule matches may stand in several blocks.
+    pub across: bool,
 }
 
 /// The options of `run`.

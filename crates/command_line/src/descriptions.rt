@@ -158,6 +158,12 @@ const FOLD: Argument = Argument {
     help: "Fold branches on numbers, and empty blocks that are not reached",
 };
 
+const ACROSS: Argument = Argument {
+    name: "across",
+    kind: Kind::Flag,
+    help: "Match what stands in several blocks",
+};
+
 /// LOGS of `recheck`.
 const LOGS: Argument = Argument {
     name: "logs",
@@ -168,7 +174,7 @@ const LOGS: Argument = Argument {
 /// The commands:
 ///
 /// - `verify RULES [--widths LIST] [--conflicts N] [--logs]`
-/// - `optimise RULES MODULE [--conflicts N] [--steps N] [--logs LOGS] [--fold]`
+/// - `optimise RULES MODULE [--conflicts N] [--steps N] [--logs LOGS] [--fold] [--across]`
 /// - `run [--blocks N] MODULE NAME [ARG..]`
 /// - `load NUMBER`
 /// - `recheck RULES LOGS [--conflicts N]`
@@ -181,7 +187,7 @@ pub(crate) static COMMANDS: [Described<'static>; 5] = [
     Described {
         name: "optimise",
         about: "Rewrites a module by the rules of a file",
-        arguments: &[RULES, MODULE, CONFLICTS, STEPS, LOGS_OPTION, FOLD],
+        arguments: &[RULES, MODULE, CONFLICTS, STEPS, LOGS_OPTION, FOLD, ACROSS],
     },
     Described {
         name: "run",

@@ -135,6 +135,7 @@ fn read_optimise<'a>(found: &ArgMatches<'a>) -> Command<'a>
             conflicts: number_of(found, "conflicts"),
             steps: number_of(found, "steps"),
             fold: flag_of(found, "fold"),
+            across: flag_of(found, "across"),
         },
     }
 }

@@ -10,6 +10,7 @@ use Rattle.ir_core.specs.declared.operand.Operand.TheVariants as operands
 use Rattle.ir_core.specs.declared.operand.Register.TheVariants as registers
 use Rattle.substitution.specs.Substitution.{Substitution, substituted_inst, substituted_end}
 use Rattle.use_counts.specs.Uses.{IsUsedOnce}
+use Rattle.bindings.specs.Match.{IsInScope}
 use Rattle.bindings.specs.declared.binding.Binding.{Binding}
 use Rattle.moved_matches.specs.Moved.{moved_binding}
 use Rattle.draft.specs.declared.draft.Draft.{Draft}
@@ -92,8 +93,9 @@ placed_binding d m = moved_binding (placed (numbers_of d)) (place_in (numbers_in
 abbrev pub HasRoomFor : ℕ → Draft → Type 0
 HasRoomFor steps d = All (λ block. length block.insts + 32 * steps ≤ none) d.arena.blocks
 
--- instruction n of block b reads from instruction m through a chain of at most so many operands, all of instructions of
--- the block that stand
-abbrev pub Reaches : Draft → ℕ → ℕ → ℕ → ℕ → Type 0
-Reaches d zero b n m = n ≡ m
-Reaches d (suc depth) b n m = (n ≡ m) ⊎ ((k : ℕ) × (i : ℕ) × (r : Read) × Stands d b n × IsRead d.arena b n i r × (r.operand ≡ operands.Register (registers.Result b k)) × Reaches d depth b k m)
+-- Instruction n of block b reads from instruction m of block c through a chain of at most so many operands, all of
+-- instructions that stand. It stays in the block, or goes across blocks.
+abbrev pub Reaches : Bool → Draft → ℕ → ℕ → ℕ → ℕ → ℕ → Type 0
+Reaches across d zero b n c m = (b ≡ c) × (n ≡ m)
+Reaches across d (suc depth) b n c m = ((b ≡ c) × (n ≡ m))
+    ⊎ ((e : ℕ) × (k : ℕ) × (i : ℕ) × (r : Read) × Stands d b n × IsRead d.arena b n i r × (r.operand ≡ operands.Register (registers.Result e k)) × IsInScope across e k b n × Reaches across d depth e k c m)

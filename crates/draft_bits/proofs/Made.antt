@@ -1,5 +1,5 @@
--- What is found of a function's results instruction by instruction is right at each, and so it is of a draft that is made
--- of the function.
+-- What is found of a function's results instruction by instruction is right at each, and so it is of a draft that is
+-- made of the function.
 use Rattle.draft_bits.proofs.Common.{◌≡◌, ◌⊎◌, ℕ, zero, suc, ◌+◌, ◌<◌, ◌≤◌, List, [], ◌∷◌, ◌++◌, length, get_or, take, All, All-nil, Option, None, Some, refl, sym, ap, subst, ◌∙◌, arith, inl, inr, eq-eqb, ne_eqb, slice_get, unwrap_or, cases_eq, cases_lt, get-append_cases, get_or_from_slice_get, get_or_past, length_push, none-some, same_Some, slice_get_within, option_map, Block, Function, Inst, Op, Operand, IsInst, IsPhi, Read, end_of, reads_of, MeetsChecks, IsReached, some_at, reads_at_inst, KnownBit, insts_of, known_at, known_operand, known_result, known_results, unknown, result_at, inst_there, ReadsStandBefore, itself, op_itself, operand_itself, arena_of, Draft, DraftBits, Facts, AreBitsOf, AreFactsIn, HasFewBits, IsRight, KeepsNoneWaiting, facts_at, results_at}
 use Rattle.ir_core.specs.declared.operand.Operand.TheVariants as operands
 use Rattle.ir_core.specs.declared.operand.Register.TheVariants as registers

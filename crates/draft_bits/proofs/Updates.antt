@@ -68,8 +68,8 @@ pub finished : (d : Draft) (waiting : Rows) (bits : DraftBits) (left : WorklistV
     → AreBitsOf d (record { blocks = bits.blocks; none = bits.none; waiting = Some left })
 finished d waiting bits left are none idle = record { as_many = are.as_many; blocks = are.blocks; right = λ b n inst stands is. are.right b n inst stands (none b n) is; idle = idle }
 
--- A place is set right whose instruction doesn't read its own result. What reads it, and is no phi, waits, or the result
--- has the bits that it had.
+-- A place is set right whose instruction doesn't read its own result. What reads it, and is no phi, waits, or the
+-- result has the bits that it had.
 module _ (d : Draft) (waiting left : Rows) (p : Place) (old bits : DraftBits) (are : IsUpdating d waiting old)
     (as_many : length bits.blocks.items ≡ length old.blocks.items) (blocks : (b : ℕ) → (facts_at bits b).block ≡ (facts_at old b).block)
     (rows : (b : ℕ) → length (results_at bits b) ≡ length (results_at old b))

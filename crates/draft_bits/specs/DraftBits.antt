@@ -53,8 +53,8 @@ pub record AreBitsOf (d : Draft) (bits : DraftBits) : Type 0 where
   pub right : (b n : ℕ) (inst : Inst) → StandsReached d b n → IsInst d.arena b n inst → IsRight b (results_at bits b) n inst
   pub idle : KeepsNoneWaiting bits
 
--- Something is known of each block from before an edit, which touched these places: at all other instructions that stand
--- it is still right, and these read no results of new instructions.
+-- Something is known of each block from before an edit, which touched these places: at all other instructions that
+-- stand it is still right, and these read no results of new instructions.
 pub record AreBitsBefore (d : Draft) (touched : List Place) (bits : DraftBits) : Type 0 where
   pub as_many : length bits.blocks.items ≡ length d.arena.blocks
   pub blocks : (b : ℕ) → b < length d.arena.blocks → (facts_at bits b).block ≡ b

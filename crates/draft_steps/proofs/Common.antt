@@ -4,9 +4,11 @@ pub use Rattle.bindings.proofs.Reading.{is_read, reads_at_inst, same_inst}
 pub use Rattle.bindings.proofs.Roots.{in_any_order}
 pub use Rattle.bindings.specs.Laws.{ReadsStandBefore, TemporariesStandBefore}
 pub use Rattle.bindings.proofs.Knowing.{asked_before_root, facts_follow}
-pub use Rattle.bindings.proofs.TemporariesBefore.{no_phi}
+pub use Rattle.bindings.proofs.Before.{before_in_block, read_assigned}
+pub use Rattle.bindings.proofs.Bound.{in_scope, scope_between}
+pub use Rattle.bindings.proofs.TemporariesBefore.{given_for, named_assigned, no_phi}
 pub use Rattle.bindings.specs.Known.{AskBits, AsksBitsOf, Knowledge, known_in, operand_for}
-pub use Rattle.bindings.specs.Match.{IsMatch, MatchesInAnyOrder}
+pub use Rattle.bindings.specs.Match.{IsInScope, IsMatch, MatchesInAnyOrder, MatchesWhere}
 pub use Rattle.bindings.specs.Matches.{AreMatchesInAnyOrder, AreMatchesWhere, IsAt, IsMatchAmong, IsMatchInAnyOrder}
 pub use Rattle.bindings.specs.Operands.{StandsFor}
 pub use Rattle.bindings.specs.Ready.{AreReady}
@@ -91,7 +93,6 @@ pub use Rattle.readers.specs.Changes.{changed_at, gone, inst_changed, inst_put, 
 pub use Rattle.readers.specs.Counts.{AreCounted, HasNumbers, names, operands_at, register_of, times, times_in, times_in_function}
 pub use Rattle.readers.specs.Readers.{HaveLists, IsPlaceIn, IsReader, arena_place, listed_for}
 pub use Rattle.readers.specs.declared.uses.Readers.{Readers}
-pub use Rattle.rewriter.proofs.Matched.{arity_same, computed_no_phi, same_is_computed}
 pub use Rattle.rewriter.proofs.Rooted.{is_bound, most_put}
 pub use Rattle.rewriter.specs.Applied.{IsRewritten}
 pub use Rattle.rewriter.specs.Laws.{RewrittenFunctionsMeetChecks}
@@ -105,6 +106,7 @@ pub use Rattle.rule_core.specs.declared.rule.Formula.{Formula}
 pub use Rattle.rule_core.specs.declared.rule.Rule.{Rule}
 pub use Rattle.rule_core.specs.declared.rule.Statement.{Statement}
 pub use Rattle.rule_matches.proofs.Joining.{pairs_first, pairs_later}
+pub use Rattle.rule_typing.proofs.Among.{fails, holds}
 pub use Rattle.rule_typing.proofs.Images.{Contains-map, from_map, get-map, get_from_map}
 pub use Rattle.rule_typing.specs.Faults.{HasNoFault}
 pub use Rattle.std.proofs.lemmas.Bool.{and_from, and_right, cases_Bool, cases_eq, cases_lt, cond-false, eq-eqb, iff_false, ne_eqb}

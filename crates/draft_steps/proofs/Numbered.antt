@@ -1,5 +1,5 @@
 -- A rewrite of a draft is the rewrite of its function, where the rule matches in the function.
-use Rattle.draft_steps.proofs.Common.{◌≡◌, ◌≢◌, ℕ, zero, suc, ◌+◌, ◌-◌, ◌<◌, ◌≤◌, inl, inr, cond, not, List, [], ◌∷◌, length, map, Option, None, Some, refl, sym, ap, subst, ◌∙◌, arith, Contains, flat_map, slice_get, slice_index_or, option_map, unwrap_or, range_with_len, option_map_or, cases_eq, cases_lt, sum_by-cons, same_Some, slice_get-map, slice_get_within, get_or_from_slice_get, unwrap_or-slice_get, IsBlock, IsInst, IsKnown, IsPhi, MeetsChecks, Name, Read, IsRead, end_of, reads_of, Block, Function, Inst, Operand, Register, first_in, later_in, ReadsRegister, IsRule, Argument, Rule, Statement, flat_map-from, IsMatch, StandsFor, StatementMatches, Binding, reads_at_inst, ReadsStandBefore, moved_binding, register_or, arity_same, computed_no_phi, same_is_computed, IsRewritten, class_width, count_put, insts_of_op, insts_put, insts_with, is_copy, Substitution, substituted_inst, substituted_operand, Rewrite, rewritten_function, instead, insts_of, placed, MayRead, put_for, rows_put_for, has_known, known_has, inst_from}
+use Rattle.draft_steps.proofs.Common.{◌≡◌, ◌≢◌, ℕ, zero, suc, ◌+◌, ◌-◌, ◌<◌, ◌≤◌, inl, inr, cond, not, List, [], ◌∷◌, length, map, Option, None, Some, refl, sym, ap, subst, ◌∙◌, arith, Contains, flat_map, slice_get, slice_index_or, option_map, unwrap_or, range_with_len, option_map_or, cases_eq, sum_by-cons, same_Some, slice_get-map, slice_get_within, get_or_from_slice_get, unwrap_or-slice_get, IsBlock, IsInst, IsKnown, MeetsChecks, Name, end_of, Block, Function, Inst, Operand, Register, first_in, later_in, IsRule, Argument, Rule, Statement, flat_map-from, Knowledge, MatchesWhere, StandsFor, Binding, moved_binding, register_or, IsRewritten, class_width, count_put, insts_of_op, insts_put, insts_with, is_copy, Substitution, substituted_inst, substituted_operand, Rewrite, rewritten_function, instead, insts_of, placed, MayRead, put_for, rows_put_for, has_known, known_has, inst_from, HasInst, IsAssigned, IsBeforeRoot, operand_for, named_assigned, before_in_block, assignment_transitive, not_both_assigned, is_read}
 use Rattle.std.proofs.lemmas.List.{length-append}
 use Rattle.ir_core.specs.declared.operand.Operand.TheVariants as operands
 use Rattle.ir_core.specs.declared.operand.Register.TheVariants as registers
@@ -9,13 +9,14 @@ use Rattle.rule_core.specs.Positions.{operands_of}
 use Rattle.rule_core.specs.declared.rule.Argument.TheVariants as arguments
 use Rattle.rule_core.specs.declared.rule.Op.{Op as RuleOp}
 use Rattle.rule_core.specs.declared.rule.Op.TheVariants as rule_ops
+use Rattle.rule_core.specs.declared.rule.Register.{Register as RuleName}
 use Rattle.rule_core.specs.declared.rule.Register.TheVariants as names
 use Rattle.rewriter.specs.Put as target
 use Rattle.places.specs.Orders.{place_in}
 use Rattle.draft_steps.specs.Rewriting.{numbered}
 use Rattle.draft_steps.proofs.Instead.{instead_other}
 use Rattle.draft_steps.proofs.Leaving.{function_at}
-use Rattle.draft_steps.proofs.Needing.{AreRows, block_back, read_back, row_is}
+use Rattle.draft_steps.proofs.Needing.{AreRows, block_back, row_is}
 use Rattle.draft_steps.proofs.Numbering.{Agrees, last_same, put_same_insts}
 use Rattle.draft_steps.proofs.PutReads.{Closed, last_holds, put_reads}
 use Rattle.draft_steps.proofs.Starting.{StandsThen, comes, no_root, stays}
@@ -54,7 +55,7 @@ put_count rule m name (s ∷ u ∷ statements) =
     ∙ (ap (λ k. k + length (insts_put rule m name (u ∷ statements))) (one_put rule m None (class_width rule m s.class) s.op)
     ∙ (ap (λ k. cond (not (is_copy s.op)) 1 0 + k) (put_count rule m name (u ∷ statements)) ∙ sym (sum_by-cons (λ (x : Statement). cond (not (is_copy x.op)) 1 0) s (u ∷ statements))))
 
-module _ (stands_before : ReadsStandBefore) (rule : Rule) (f : Function) (rows : List (List ℕ)) (good : AreRows f rows) (m : Binding) where
+module _ (rule : Rule) (f : Function) (rows : List (List ℕ)) (good : AreRows f rows) (m : Binding) where
   abbrev F : Function
   F = function_at f rows
 
@@ -75,94 +76,8 @@ module _ (stands_before : ReadsStandBefore) (rule : Rule) (f : Function) (rows :
   abbrev IsLow : Operand → Type 0
   IsLow a = (c q : ℕ) → a ≡ operands.Register (registers.Result c q) → Contains (slice_index_or rows c []) q × (c ≡ m.block → place_in row q < P)
 
-  module _ (checks : MeetsChecks F) (is_rule : IsRule rule) (is : IsMatch F m.block P rule pm) where
-    -- a result that is read in the function is of an instruction that stands
-    stands_read : (c l d q : ℕ) → ReadsRegister F c l (registers.Result d (place_in (slice_index_or rows d []) q)) → Contains (slice_index_or rows d []) q
-    stands_read c l d q h =
-        let from = read_back f rows good c l d (place_in (slice_index_or rows d []) q) (registers.Result d (place_in (slice_index_or rows d []) q)) refl h in
-        let lt : place_in (slice_index_or rows d []) from.number < length (slice_index_or rows d []) = is_in (slice_index_or rows d []) from.number from.stands in
-        contained (slice_index_or rows d []) q (subst (λ (k : ℕ). k < length (slice_index_or rows d [])) from.place lt)
-
-    source_low : (j : ℕ) (s : Statement) → slice_get rule.source j ≡ Some s → (h : StatementMatches F rule pm j s) → h.place ≤ P
-    source_low j s at h =
-        elim (cases_lt (suc j) (length rule.source)) [
-          | inl early ↦ let lt : h.place < P = is.before j h.place early h.bound in omega arith
-          | inr late ↦
-              let within : j < length rule.source = slice_get_within rule.source j s at in
-              let last : h.place ≡ P = h.matches.root (omega arith) in
-              omega arith
-        ]
-
-    -- a rule's input is bound to what is read by an instruction that is no phi and not behind the root
-    record IsInputRead (a : Operand) : Type 0 where
-      pub place : ℕ
-      pub inst : Inst
-      pub is_inst : IsInst F m.block place inst
-      pub computed : ¬ IsPhi inst.op
-      pub low : place ≤ P
-      pub index : ℕ
-      pub read : Read
-      pub is_read : IsRead F m.block place index read
-      pub operand : read.operand ≡ substituted_operand to a
-
-    input_read : (i : ℕ) (a : Operand) → i < length rule.inputs → slice_get m.inputs i ≡ Some a → IsInputRead a
-    input_read i a lt at =
-        let (x, (o, at_x, names_it)) = is_rule.inputs_read i lt in
-        let (j, s, is_statement, among) = flat_map-from (λ (s : Statement). operands_of s.op) rule.source o (contains_at (flat_map (λ (s : Statement). operands_of s.op) rule.source) x o at_x) in
-        let h = is.statements j s is_statement in
-        let (n, there) = place_among (operands_of s.op) o among in
-        let within : n < length (operands_of s.op) = slice_get_within (operands_of s.op) n o there in
-        let (r, is_there) = some_at (reads_of F m.block h.place h.inst.width h.inst.op) n (omega (arith, within, arity_same F m.block h.place h.inst.width s.op h.inst.op h.matches.operation)) in
-        let is_read : IsRead F m.block h.place n r = ap (λ (l : List Read). slice_get l n) (reads_at_inst F m.block h.place h.inst h.is_inst) ∙ is_there in
-        let matched = h.matches.operands n o r there is_read in
-        let bound : StandsFor pm r.width (arguments.Register (names.Input i)) r.operand = subst (λ (a : Argument). StandsFor pm r.width a r.operand) names_it matched.value in
-        let put : slice_get (map (substituted_operand to) m.inputs) i ≡ Some (substituted_operand to a) = slice_get-map (substituted_operand to) m.inputs i ∙ ap (option_map (substituted_operand to)) at in
-        record {
-          place = h.place;
-          inst = h.inst;
-          is_inst = h.is_inst;
-          computed = computed_no_phi h.inst.op (same_is_computed s.op h.inst.op h.matches.operation);
-          low = source_low j s is_statement h;
-          index = n;
-          read = r;
-          is_read = is_read;
-          operand = same_Some r.operand (substituted_operand to a) (sym bound ∙ put);
-        }
-
-    pub input_low : (i : ℕ) (a : Operand) → i < length rule.inputs → slice_get m.inputs i ≡ Some a → IsLow a
-    input_low i a lt at c q same =
-        let x = input_read i a lt at in
-        let operand : x.read.operand ≡ operands.Register (registers.Result c (place_in (slice_index_or rows c []) q)) = x.operand ∙ ap (substituted_operand to) same in
-        let reads : ReadsRegister F m.block x.place (registers.Result c (place_in (slice_index_or rows c []) q)) = record { operand = x.index; read = x.read; is_read = x.is_read; reads = operand } in (
-          stands_read m.block x.place c q reads,
-          λ here.
-              let at_root : x.read.operand ≡ operands.Register (registers.Result m.block (place_in row q)) = operand ∙ ap (λ d. operands.Register (registers.Result d (place_in (slice_index_or rows d []) q))) here in
-              let early : place_in row q < x.place = stands_before F m.block x.place (place_in row q) x.index x.inst x.read checks is.reached x.is_inst x.computed x.is_read at_root in
-              let le : x.place ≤ P = x.low in
-              omega (arith, early, le),
-        )
-
-    -- and it is known to the function
-    pub input_known : (i : ℕ) (a : Operand) → i < length rule.inputs → slice_get m.inputs i ≡ Some a → IsKnown F (substituted_operand to a)
-    input_known i a lt at = let x = input_read i a lt at in subst (IsKnown F) x.operand (checks.formed.registers m.block x.place x.index x.read x.is_read)
-
-    pub source_of : (j : ℕ) (r : Register) → suc j < length rule.source → slice_get m.statements j ≡ Some r → (q : ℕ) × (r ≡ registers.Result m.block q) × (place_in row q < P)
-    source_of j r early at =
-        let (s, is_statement) = some_at rule.source j (omega (arith, early)) in
-        let h = is.statements j s is_statement in
-        let put : slice_get (map (λ r. register_or r (to r)) m.statements) j ≡ Some (register_or r (to r)) = slice_get-map (λ r. register_or r (to r)) m.statements j ∙ ap (option_map (λ r. register_or r (to r))) at in
-        by r h.place (same_Some (register_or r (to r)) (registers.Result m.block h.place) (sym put ∙ h.bound)) (is.before j h.place early h.bound)
-      where
-        by : (r : Register) (place : ℕ) → register_or r (to r) ≡ registers.Result m.block place → place < P → (q : ℕ) × (r ≡ registers.Result m.block q) × (place_in row q < P)
-        by (registers.Parameter p) place e lt = absurd (let same : registers.Parameter p ≡ registers.Result m.block place = e in cc)
-        by (registers.Result c q) place e lt =
-            let same : registers.Result c (place_in (slice_index_or rows c []) q) ≡ registers.Result m.block place = e in
-            let block : c ≡ m.block = cc in
-            let number : place_in (slice_index_or rows c []) q ≡ place = cc in
-            let here : place_in row q ≡ place = subst (λ (d : ℕ). place_in (slice_index_or rows d []) q ≡ place) block number in
-            (q, ap (λ d. registers.Result d q) block, subst (λ (k : ℕ). k < P) (sym here) lt)
-
-    -- ---- the inserted instructions
+  module _ (checks : MeetsChecks F) (is_rule : IsRule rule) {Before : ℕ → ℕ → ℕ → ℕ → Type 0} {known : Knowledge} (is : MatchesWhere Before known F m.block P rule pm) where
+    -- ---- the root
 
     -- the root stands, and is an instruction of the arena
     pub record IsRootIn : Type 0 where
@@ -180,8 +95,8 @@ module _ (stands_before : ReadsStandBefore) (rule : Rule) (f : Function) (rows :
         let is_last : suc last ≡ length rule.source = omega (arith, some) in
         let (s, is_statement) = some_at rule.source last (omega (arith, is_last)) in
         let h = is.statements last s is_statement in
-        let at_root : h.place ≡ P = h.matches.root is_last in
-        let there : IsInst F m.block P h.inst = subst (λ (k : ℕ). IsInst F m.block k h.inst) at_root h.is_inst in
+        let at_root = h.matches.root is_last in
+        let there : IsInst F m.block P h.inst = subst (λ (k : ℕ). IsInst F m.block k h.inst) at_root.1 (subst (λ (d : ℕ). IsInst F d h.place h.inst) at_root.0 h.is_inst) in
         let p = block_back f rows good m.block there.block there.is_block in
         let at : slice_get (insts_of to p.block.insts p.row) P ≡ Some h.inst = subst (λ (x : Block). slice_get x.insts P ≡ Some h.inst) (sym p.is) there.is_inst in
         let from = inst_from to p.block.insts p.row P h.inst (good.numbers m.block p.block p.row p.is_block p.at) at in
@@ -197,6 +112,69 @@ module _ (stands_before : ReadsStandBefore) (rule : Rule) (f : Function) (rows :
           stands = stands;
           placed_inst = subst (IsInst F m.block P) (sym from.4) there;
         }
+
+    -- ---- what the match names
+
+    -- an instruction that is in the function stands
+    stands_there : (c q : ℕ) → HasInst F c (place_in (slice_index_or rows c []) q) → Contains (slice_index_or rows c []) q
+    stands_there c q (new, is_new, lt) =
+        let k : ℕ = place_in (slice_index_or rows c []) q in
+        let (inst, at) = some_at new.insts k lt in
+        let p = block_back f rows good c new is_new in
+        let from = inst_from to p.block.insts p.row k inst (good.numbers c p.block p.row p.is_block p.at) (subst (λ (x : Block). slice_get x.insts k ≡ Some inst) (sym p.is) at) in
+        contained (slice_index_or rows c []) q (subst (λ (l : List ℕ). k < length l) (sym (row_is rows c p.row p.at)) (slice_get_within p.row k from.0 from.2))
+
+    root_has : HasInst F m.block P
+    root_has = let there = root_in.placed_inst in (there.block, there.is_block, slice_get_within there.block.insts P (substituted_inst to root_in.inst) there.is_inst)
+
+    -- what it names is assigned at the root, so it is of an instruction that stands, and before the root in its block
+    named_low : (name : RuleName) (a : Operand) → IsBeforeRoot rule name → operand_for pm name ≡ Some (substituted_operand to a) → IsLow a
+    named_low name a before bound c q same =
+        let reg : Register = registers.Result c (place_in (slice_index_or rows c []) q) in
+        let assigned : IsAssigned F reg m.block P = named_assigned assignment_transitive F m.block P rule pm checks is_rule is name reg before (bound ∙ ap (λ (x : Operand). Some (substituted_operand to x)) same) in (
+          stands_there c q assigned.0,
+          λ here. before_in_block not_both_assigned F m.block (place_in row q) P is.reached root_has
+              (subst (λ (d : ℕ). IsAssigned F (registers.Result d (place_in (slice_index_or rows d []) q)) m.block P) here assigned),
+        )
+
+    put_input : (i : ℕ) (a : Operand) → slice_get m.inputs i ≡ Some a → slice_get (map (substituted_operand to) m.inputs) i ≡ Some (substituted_operand to a)
+    put_input i a at = slice_get-map (substituted_operand to) m.inputs i ∙ ap (option_map (substituted_operand to)) at
+
+    pub input_low : (i : ℕ) (a : Operand) → i < length rule.inputs → slice_get m.inputs i ≡ Some a → IsLow a
+    input_low i a lt at = named_low (names.Input i) a lt (put_input i a at)
+
+    -- the substitution gives a register for each
+    is_register : (r : Register) → operands.Register (register_or r (to r)) ≡ to r
+    is_register (registers.Parameter p) = refl
+    is_register (registers.Result c q) = refl
+
+    put_register : (j : ℕ) (r : Register) → slice_get m.statements j ≡ Some r → slice_get (map (λ r. register_or r (to r)) m.statements) j ≡ Some (register_or r (to r))
+    put_register j r at = slice_get-map (λ r. register_or r (to r)) m.statements j ∙ ap (option_map (λ r. register_or r (to r))) at
+
+    pub temporary_low : (j : ℕ) (r : Register) → suc j < length rule.source → slice_get m.statements j ≡ Some r → IsLow (operands.Register r)
+    temporary_low j r early at = named_low (names.Source j) (operands.Register r) early (ap (option_map operands.Register) (put_register j r at) ∙ ap (λ (x : Operand). Some x) (is_register r))
+
+    -- and it is known to the function
+    pub input_known : (i : ℕ) (a : Operand) → i < length rule.inputs → slice_get m.inputs i ≡ Some a → IsKnown F (substituted_operand to a)
+    input_known i a lt at =
+        let (x, (o, at_x, names_it)) = is_rule.inputs_read i lt in
+        let (j, s, is_statement, among) = flat_map-from (λ (s : Statement). operands_of s.op) rule.source o (contains_at (flat_map (λ (s : Statement). operands_of s.op) rule.source) x o at_x) in
+        let h = is.statements j s is_statement in
+        let (n, there) = place_among (operands_of s.op) o among in
+        let (r, read_there) = is_read F h.block h.place h.inst s.op h.is_inst h.matches.operation n o there in
+        let matched = h.matches.operands n o r there read_there in
+        let bound : StandsFor pm r.width (arguments.Register (names.Input i)) r.operand = subst (λ (a : Argument). StandsFor pm r.width a r.operand) names_it matched.value in
+        subst (IsKnown F) (same_Some r.operand (substituted_operand to a) (sym bound ∙ put_input i a at)) (checks.formed.registers h.block h.place n r read_there)
+
+    pub temporary_known : (j : ℕ) (r : Register) → suc j < length rule.source → slice_get m.statements j ≡ Some r → IsKnown F (to r)
+    temporary_known j r early at =
+        let (s, is_statement) = some_at rule.source j (omega (arith, early)) in
+        let h = is.statements j s is_statement in
+        let same : register_or r (to r) ≡ registers.Result h.block h.place = same_Some (register_or r (to r)) (registers.Result h.block h.place) (sym (put_register j r at) ∙ h.bound) in
+        let known : IsKnown F (operands.Register (registers.Result h.block h.place)) = has_known F h.block h.place (h.is_inst.block, h.is_inst.is_block, slice_get_within h.is_inst.block.insts h.place h.inst h.is_inst.is_inst) in
+        subst (IsKnown F) (is_register r) (subst (λ (x : Register). IsKnown F (operands.Register x)) (sym same) known)
+
+    -- ---- the inserted instructions
 
     module _ (name : Name) (root : IsRootIn) where
       abbrev w : Rewrite
@@ -249,15 +227,12 @@ module _ (stands_before : ReadsStandBefore) (rule : Rule) (f : Function) (rows :
         input = λ i lt.
             let within : i < length m.inputs = sized i lt in
             let (a, at) = some_at m.inputs i within in
-            let put : slice_get (map (substituted_operand to) m.inputs) i ≡ Some (substituted_operand to a) = slice_get-map (substituted_operand to) m.inputs i ∙ ap (option_map (substituted_operand to)) at in
             ap g (get_or_from_slice_get m.inputs i a operands.Poison at)
-            ∙ (low_same a (input_low i a lt at) ∙ sym (get_or_from_slice_get (map (substituted_operand to) m.inputs) i (substituted_operand to a) operands.Poison put));
+            ∙ (low_same a (input_low i a lt at) ∙ sym (get_or_from_slice_get (map (substituted_operand to) m.inputs) i (substituted_operand to a) operands.Poison (put_input i a at)));
         source = λ j early.
             let (r, at) = some_at m.statements j (bound j early) in
-            let (q, is_result, low) = source_of j r early at in
-            let put : slice_get (map (λ r. register_or r (to r)) m.statements) j ≡ Some (register_or r (to r)) = slice_get-map (λ r. register_or r (to r)) m.statements j ∙ ap (option_map (λ r. register_or r (to r))) at in
             ap (λ o. g (option_map_or operands.Register o operands.Poison)) at
-            ∙ (ap (λ r. g (operands.Register r)) is_result ∙ (source_same q low ∙ (ap (λ r. operands.Register (register_or r (to r))) (sym is_result) ∙ sym (ap (λ o. option_map_or operands.Register o operands.Poison) put))));
+            ∙ (low_same (operands.Register r) (temporary_low j r early at) ∙ (sym (is_register r) ∙ sym (ap (λ o. option_map_or operands.Register o operands.Poison) (put_register j r at))));
         result = λ j lt.
             let fits : j < length w.put = subst (λ (k : ℕ). j < k) (sym count) lt in
             ap (substituted_operand (placed rows')) (instead_other (registers.Result m.block m.place) w.result (registers.Result m.block (end_of f m.block + j)) (λ e.
@@ -281,11 +256,6 @@ module _ (stands_before : ReadsStandBefore) (rule : Rule) (f : Function) (rows :
               let same : length (map (λ r. register_or r (to r)) m.statements) ≡ length rule.source = is.statement_count in
               let also : length (map (λ r. register_or r (to r)) m.statements) ≡ length m.statements = lengths (λ r. register_or r (to r)) m.statements in
               omega (arith, early, same, also)
-
-          source_same : (q : ℕ) → place_in row q < P → g (operands.Register (registers.Result m.block q)) ≡ operands.Register (registers.Result m.block (place_in row q))
-          source_same q low =
-              ap (substituted_operand (placed rows')) (instead_other (registers.Result m.block m.place) w.result (registers.Result m.block q) (not_root m.block q (λ same. low)))
-              ∙ ap (λ k. operands.Register (registers.Result m.block k)) (low_place f rows good m.block m.place (length w.put) root.block root.is_block root.stands q low)
 
       -- ---- what they read is of instructions that stand
 
@@ -315,17 +285,6 @@ module _ (stands_before : ReadsStandBefore) (rule : Rule) (f : Function) (rows :
 
       input_is : (i : ℕ) (P' : Operand → Type 0) (a : Operand) → slice_get m.inputs i ≡ Some a → P' a → P' (slice_index_or m.inputs i operands.Poison)
       input_is i P' a at h = subst P' (sym (get_or_from_slice_get m.inputs i a operands.Poison at)) h
-
-      -- a temporary of the source stands before the root
-      temporary_low : (j : ℕ) (r : Register) → suc j < length rule.source → slice_get m.statements j ≡ Some r → IsLow (operands.Register r)
-      temporary_low j r early at c q same =
-          let (k, is_result, low) = source_of j r early at in
-          let register : registers.Result m.block k ≡ registers.Result c q = sym is_result ∙ (let e : operands.Register r ≡ operands.Register (registers.Result c q) = same in cc) in
-          let block : m.block ≡ c = cc in
-          let number : k ≡ q = cc in
-          let here : place_in row q < P = subst (λ (x : ℕ). place_in row x < P) number low in
-          let below : place_in row m.place < length row = is_in row m.place root.stands in
-          (subst (λ (d : ℕ). Contains (slice_index_or rows d []) q) block (contained row q (omega (arith, here, below))), λ e. here)
 
       closed_stand : Closed rule m (end_of f m.block) (λ k a. k ≤ length w.put → Stands a)
       closed_stand = record {
@@ -380,11 +339,7 @@ module _ (stands_before : ReadsStandBefore) (rule : Rule) (f : Function) (rows :
         input = λ k i lt. let (a, at) = input_at i lt in input_is i (MayRead f m.block k) a at (inl (low_known a (input_low i a lt at) (input_known i a lt at)));
         source = λ k j early.
             let (r, at) = source_at j early in
-            let (q, is_result, low) = source_of j r early at in
-            let has : Contains row q = (temporary_low j r early at m.block q (ap (λ x. operands.Register x) is_result)).0 in
-            let (numbers, at_row) = good.row m.block root.block root.is_block in
-            let lt : q < length root.block.insts = good.numbers m.block root.block numbers root.is_block at_row q (subst (λ (l : List ℕ). Contains l q) (row_is rows m.block numbers at_row) has) in
-            source_is j (MayRead f m.block k) r at (inl (subst (λ (x : Register). IsKnown f (operands.Register x)) (sym is_result) (has_known f m.block q (root.block, root.is_block, lt))));
+            source_is j (MayRead f m.block k) r at (inl (low_known (operands.Register r) (temporary_low j r early at) (temporary_known j r early at)));
         result = λ k i lt. inr (i, lt, refl);
       }
 

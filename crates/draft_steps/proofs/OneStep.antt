@@ -1,5 +1,5 @@
 -- One step of rewriting: a rule is applied to a draft, and the dead code is removed.
-use Rattle.draft_steps.proofs.Common.{◌≡◌, ◌≢◌, ℕ, suc, ◌<◌, ◌≤◌, ◌⊎◌, inl, inr, List, [], ◌++◌, length, map, Option, None, Some, All, refl, sym, ap, subst, ◌∙◌, arith, Contains, slice_get, slice_index_or, option_map, filter_map, cases_eq, length-map, All-contains_itself, All-map, All-weaker, Contains-append_cases, Contains-append_left, Contains-append_right, same_Some, slice_get-map, slice_get_within, HasInst, IsBlock, IsInst, MeetsChecks, end_of, Block, Function, Inst, Operand, Register, IsNeeded, ReadsRegister, IsUseCount, IsUsedOnce, count_of_one, use_counts_are_one, IsRule, Rule, HasNoFault, NumbersFit, IsMatch, Binding, ReadsStandBefore, register_or, IsRewritten, RewrittenFunctionsMeetChecks, IsBound, is_bound, most_put, Substitution, substituted_block, substituted_inst, substituted_operand, Rewrite, map_in, gone, inst_changed, instead, replaced, AreRead, HasNoDeadCode, IsEliminating, IsNeededWith, KeepsUses, ends, is_one, operands_at, register_of, times_in_function, AreTouched, HasRoomFor, Stands, function_of, numbers_of, orders_of, placed, placed_binding, none, IsPlaceIn, arena_place, IsPutFor, MayPut, MayRead, put_for, put_numbers, with_put, IsSettled, IsWhole, Draft, Place, Rewritten, changed_length, inst_there, counted_block, AreFew, insts-stay, arena_place_inst, inst_stays, unread_stays, use_count, few_insts, stands_there}
+use Rattle.draft_steps.proofs.Common.{Bool, ◌≡◌, ◌≢◌, ℕ, suc, ◌<◌, ◌≤◌, ◌⊎◌, inl, inr, List, [], ◌++◌, length, map, Option, None, Some, All, refl, sym, ap, subst, ◌∙◌, arith, Contains, slice_get, slice_index_or, option_map, filter_map, cases_eq, length-map, All-contains_itself, All-map, All-weaker, Contains-append_cases, Contains-append_left, Contains-append_right, same_Some, slice_get-map, slice_get_within, HasInst, IsBlock, IsInst, MeetsChecks, end_of, Block, Function, Inst, Operand, Register, IsNeeded, ReadsRegister, IsUseCount, IsUsedOnce, count_of_one, use_counts_are_one, IsRule, Rule, HasNoFault, NumbersFit, Knowledge, IsMatch, MatchesWhere, Binding, register_or, IsRewritten, RewrittenFunctionsMeetChecks, IsBound, is_bound, most_put, Substitution, substituted_block, substituted_inst, substituted_operand, Rewrite, map_in, gone, inst_changed, instead, replaced, AreRead, HasNoDeadCode, IsEliminating, IsNeededWith, KeepsUses, ends, is_one, operands_at, register_of, times_in_function, AreTouched, HasRoomFor, Stands, function_of, numbers_of, orders_of, placed, placed_binding, none, IsPlaceIn, arena_place, IsPutFor, MayPut, MayRead, put_for, put_numbers, with_put, IsSettled, IsWhole, Draft, Place, Rewritten, changed_length, inst_there, counted_block, AreFew, insts-stay, arena_place_inst, inst_stays, unread_stays, use_count, few_insts, stands_there}
 use Rattle.ir_core.specs.declared.operand.Operand.TheVariants as operands
 use Rattle.ir_core.specs.declared.operand.Register.TheVariants as registers
 use Rattle.ir_meaning.proofs.Pieces.{some_at}
@@ -33,8 +33,8 @@ there_too v n sigma d None o' x e are = absurd cc
 there_too v n sigma d (Some z) None x e are = absurd are
 there_too v n sigma d (Some z) (Some y) x e are = (y, refl, subst (λ (u : Block). IsPutBlock v n sigma d u y) (same_Some z x e) are)
 
-module _ (stands_before : ReadsStandBefore) (old : Draft) (settled : IsSettled old) (rule : Rule) (m : Binding) (checks : MeetsChecks (function_of old)) (is_rule : IsRule rule)
-    (matches : IsMatch (function_of old) m.block (placed_binding old m).place rule (placed_binding old m)) where
+module _ (old : Draft) (settled : IsSettled old) (rule : Rule) (m : Binding) (checks : MeetsChecks (function_of old)) (is_rule : IsRule rule)
+    {Before : ℕ → ℕ → ℕ → ℕ → Type 0} {known : Knowledge} (matches : MatchesWhere Before known (function_of old) m.block (placed_binding old m).place rule (placed_binding old m)) where
   abbrev rows : List (List ℕ)
   rows = numbers_of old
 
@@ -42,10 +42,10 @@ module _ (stands_before : ReadsStandBefore) (old : Draft) (settled : IsSettled o
   good = settled_rows old settled
 
   abbrev pub Root : Type 0
-  Root = IsRootIn stands_before rule old.arena (numbers_of old) good m checks is_rule matches
+  Root = IsRootIn rule old.arena (numbers_of old) good m checks is_rule matches
 
   pub root : Root
-  root = root_in stands_before rule old.arena (numbers_of old) good m checks is_rule matches
+  root = root_in rule old.arena (numbers_of old) good m checks is_rule matches
 
   pub root_stands : Stands old m.block m.place
   root_stands = root.stands
@@ -71,12 +71,12 @@ module _ (stands_before : ReadsStandBefore) (old : Draft) (settled : IsSettled o
 
   pub readable : (inst : Inst) → IsInst old.arena m.block m.place inst → MayPut old.arena m.block (target.rewrite_of rule (numbered old.arena m) inst.name).put
   readable inst is = λ j i at.
-      All-weaker (Contains (operands_of i.op)) (MayRead old.arena m.block j) (λ a has. put_known stands_before rule old.arena (numbers_of old) good m checks is_rule matches inst.name root j i at a has) (operands_of i.op)
+      All-weaker (Contains (operands_of i.op)) (MayRead old.arena m.block j) (λ a has. put_known rule old.arena (numbers_of old) good m checks is_rule matches inst.name root j i at a has) (operands_of i.op)
       (All-contains_itself (operands_of i.op))
 
   pub result_readable : (inst : Inst) → IsInst old.arena m.block m.place inst
       → MayRead old.arena m.block (length (target.rewrite_of rule (numbered old.arena m) inst.name).put) (target.rewrite_of rule (numbered old.arena m) inst.name).result
-  result_readable inst is = result_known stands_before rule old.arena (numbers_of old) good m checks is_rule matches inst.name root
+  result_readable inst is = result_known rule old.arena (numbers_of old) good m checks is_rule matches inst.name root
 
   abbrev pub w : Rewrite
   w = target.rewrite_of rule (numbered old.arena m) root.inst.name
@@ -105,8 +105,8 @@ module _ (stands_before : ReadsStandBefore) (old : Draft) (settled : IsSettled o
     read_then c k d q h =
         subst (λ (l : List (List ℕ)). Contains (slice_index_or l d []) q) (sym put.numbers)
         (read_stands_then old.arena (numbers_of old) good m.block m.place w.put w.result root.block root.is_block root.stands
-        (put_stand stands_before rule old.arena (numbers_of old) good m checks is_rule matches root.inst.name root)
-        (result_stands stands_before rule old.arena (numbers_of old) good m checks is_rule matches root.inst.name root)
+        (put_stand rule old.arena (numbers_of old) good m checks is_rule matches root.inst.name root)
+        (result_stands rule old.arena (numbers_of old) good m checks is_rule matches root.inst.name root)
         has_root c k d q (subst (λ (h : Function). ReadsRegister h c k (registers.Result d q)) put.arena h))
 
     pub good_then : AreRows mid.arena (numbers_of mid)
@@ -117,10 +117,11 @@ module _ (stands_before : ReadsStandBefore) (old : Draft) (settled : IsSettled o
     is_rewritten =
         subst (λ (h : Function). IsRewritten (function_of old) (placed_binding old m) rule (function_at h (numbers_of mid))) (sym put.arena)
         (subst (λ (l : List (List ℕ)). IsRewritten (function_of old) (placed_binding old m) rule (function_at Put l)) (sym put.numbers)
-        (rule_applied stands_before rule old.arena (numbers_of old) good m checks is_rule matches root))
+        (rule_applied rule old.arena (numbers_of old) good m checks is_rule matches root))
 
-    pub checks_then : RewrittenFunctionsMeetChecks → HasNoFault rule → NumbersFit (function_of old) → MeetsChecks (function_of mid)
-    checks_then meets typed fit = meets (function_of old) (function_of mid) m.block (placed_binding old m).place rule (placed_binding old m) is_rule typed checks fit matches is_rewritten
+    pub checks_then : (across : Bool) → IsMatch across (function_of old) m.block (placed_binding old m).place rule (placed_binding old m)
+        → RewrittenFunctionsMeetChecks → HasNoFault rule → NumbersFit (function_of old) → MeetsChecks (function_of mid)
+    checks_then across is meets typed fit = meets across (function_of old) (function_of mid) m.block (placed_binding old m).place rule (placed_binding old m) is_rule typed checks fit is is_rewritten
 
     fell_then : (r : Register) → Contains (map (λ number. registers.Result m.block number) (put_numbers old.arena w)
         ++ filter_map register_of (operands_at g (record { block = m.block; number = m.place }))) r → Contains mid.dead_candidates.items r
@@ -139,8 +140,8 @@ module _ (stands_before : ReadsStandBefore) (old : Draft) (settled : IsSettled o
           let few : length root.block.insts ≤ none = (settled.whole.rows m.block root.block root.is_block).few in
           let lt : m.place < length root.block.insts = slice_get_within root.block.insts m.place root.inst root.is_inst in
           let start = begins old.arena (numbers_of old) good m.block m.place w.put w.result root.block root.is_block root.stands
-          (put_stand stands_before rule old.arena (numbers_of old) good m checks is_rule matches root.inst.name root)
-          (result_stands stands_before rule old.arena (numbers_of old) good m checks is_rule matches root.inst.name root)
+          (put_stand rule old.arena (numbers_of old) good m checks is_rule matches root.inst.name root)
+          (result_stands rule old.arena (numbers_of old) good m checks is_rule matches root.inst.name root)
           has_root clean mid.dead_candidates.items
           (λ n has. fell_then (registers.Result m.block n) (Contains-append_left (map (λ number. registers.Result m.block number) (put_numbers old.arena w)) (filter_map register_of (operands_at g (record { block = m.block; number = m.place })))
           (registers.Result m.block n) (map_in (λ number. registers.Result m.block number) (put_numbers old.arena w) n has)))
@@ -161,7 +162,7 @@ module _ (stands_before : ReadsStandBefore) (old : Draft) (settled : IsSettled o
       pub result_is_needed : (r : Register) → told.result ≡ operands.Register r → IsNeeded mid.arena r
       result_is_needed r is =
           subst (λ (h : Function). IsNeeded h r) (sym put.arena)
-          (result_needed old.arena m.block m.place w.put w.result (not_own stands_before rule old.arena (numbers_of old) good m checks is_rule matches root.inst.name root) r (sym put.result ∙ is) has_root
+          (result_needed old.arena m.block m.place w.put w.result (not_own rule old.arena (numbers_of old) good m checks is_rule matches root.inst.name root) r (sym put.result ∙ is) has_root
           (clean m.block m.place root.stands))
 
     pub room_then : (steps : ℕ) → HasRoomFor (suc steps) old → HasRoomFor steps mid

@@ -1,5 +1,6 @@
--- What an instruction of the arena reads, in the function: by positions, and those of its block before its own.
-use Rattle.draft_steps.proofs.Common.{◌≡◌, ℕ, ◌<◌, List, Some, sym, ap, ◌∙◌, Contains, slice_get, MeetsChecks, IsInst, IsPhi, IsRead, Read, reads_of, IsReached, Function, Inst, Op, Binary, Compare, Unary, Select, Convert, Freeze, Phi, Operand, get_from_map, get-map, Substitution, substituted_inst, substituted_op, substituted_operand, ReadsStandBefore, reads_at_inst, placed, AreArranged, arranged, row_of}
+-- What an instruction of the arena reads, in the function: by positions, assigned at its own, and those of its block
+-- before it.
+use Rattle.draft_steps.proofs.Common.{◌≡◌, ℕ, ◌<◌, List, Some, sym, ap, ◌∙◌, Contains, slice_get, MeetsChecks, IsAssigned, IsInst, IsPhi, IsRead, Read, reads_of, IsReached, Function, Inst, Op, Binary, Compare, Unary, Select, Convert, Freeze, Phi, Operand, get_from_map, get-map, Substitution, substituted_inst, substituted_op, substituted_operand, ReadsStandBefore, read_assigned, reads_at_inst, placed, AreArranged, arranged, row_of}
 use Rattle.ir_core.specs.declared.operand.Operand.TheVariants as operands
 use Rattle.ir_core.specs.declared.operand.Register.TheVariants as registers
 use Rattle.places.specs.Orders.{place_in}
@@ -31,6 +32,17 @@ module _ (arena : Function) (rows : List (List ℕ)) (are : AreArranged arena ro
       ∙ get-map (substituted_operand (placed rows)) (operands_read (reads_of arena b p inst.width inst.op)) i r.operand (get-map (λ (x : Read). x.operand) (reads_of arena b p inst.width inst.op) i r old) in
       let (r', at, is) = get_from_map (λ (x : Read). x.operand) (reads_of F b k inst.width (substituted_op (placed rows) inst.op)) i (substituted_operand (placed rows) r.operand) new in
       (r', ap (λ (l : List Read). slice_get l i) (reads_at_inst F b k (substituted_inst (placed rows) inst) there) ∙ at, is)
+
+  -- what it reads is assigned at its position, if it is no phi
+  pub assigned_up : MeetsChecks F → (d q i e p : ℕ) (inst : Inst) (r : Read) → ¬ IsPhi inst.op → Contains (row_of rows d) q → IsInst arena d q inst → IsRead arena d q i r
+      → r.operand ≡ operands.Register (registers.Result e p) → Contains (row_of rows e) p × IsAssigned F (registers.Result e (place_in (row_of rows e) p)) d (place_in (row_of rows d) q)
+  assigned_up checks d q i e p inst r no_phi has is_inst is_read reads =
+      let there : IsInst F d (place_in (row_of rows d) q) (substituted_inst (placed rows) inst) = inst_on arena rows are d q inst has is_inst in
+      let now = read_on d q i inst r has is_inst is_read in (
+        are.read_stands d q i e p r is_read reads,
+        read_assigned F d (place_in (row_of rows d) q) i (substituted_inst (placed rows) inst) now.0 (registers.Result e (place_in (row_of rows e) p)) checks there
+            (λ phi. no_phi (was_phi (placed rows) inst.op phi)) now.1 (now.2 ∙ ap (substituted_operand (placed rows)) reads),
+      )
 
   -- what it reads of its own block stands before it, if it is no phi
   pub reads_up : ReadsStandBefore → MeetsChecks F → (b p q i : ℕ) (inst : Inst) (r : Read) → IsReached arena b → ¬ IsPhi inst.op → Contains (row_of rows b) p → IsInst arena b p inst → IsRead arena b p i r

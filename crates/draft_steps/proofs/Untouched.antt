@@ -1,7 +1,7 @@
 -- Where the statements of matches at an instruction are bound to untouched ones, the matches are those that were there,
 -- but perhaps for some whose rule asks for a register with one use. What a rule asks of bits is of operands that are
 -- untouched too.
-use Rattle.draft_steps.proofs.Common.{◌≡◌, ◌⊎◌, inl, inr, ℕ, suc, ◌<◌, ◌≤◌, List, [], ◌∷◌, length, get_or, None, Some, refl, sym, ap, subst, ◌∙◌, arith, Contains, slice_get, All-contains, Contains-get_or, none-some, same_Some, slice_get_cases, IsInst, Read, IsRead, IsReached, Function, Inst, Register, cases_in, later_in, first_in, not_in_empty, Formula, Rule, IsUsedOnce, MatchesInAnyOrder, IsSameOperation, Binding, reads_at_inst, same_inst, Match, AreMatchesInAnyOrder, IsAt, IsMatchInAnyOrder, AreReady, ◌+◌, Operand, AskBits, AsksBitsOf, Knowledge, asked_before_root, operand_for}
+use Rattle.draft_steps.proofs.Common.{◌≡◌, ◌⊎◌, inl, inr, ℕ, suc, ◌<◌, ◌≤◌, List, [], ◌∷◌, length, get_or, None, Some, refl, sym, ap, subst, ◌∙◌, arith, Bool, false, true, Contains, slice_get, All-contains, Contains-get_or, none-some, same_Some, slice_get_cases, IsInst, Read, IsRead, IsReached, Function, Inst, Register, cases_in, later_in, first_in, not_in_empty, Formula, Rule, IsUsedOnce, IsInScope, MatchesInAnyOrder, in_scope, IsSameOperation, Binding, reads_at_inst, same_inst, Match, AreMatchesInAnyOrder, IsAt, IsMatchInAnyOrder, AreReady, ◌+◌, Operand, AskBits, AsksBitsOf, Knowledge, asked_before_root, operand_for}
 use Rattle.rule_core.specs.declared.rule.Register.{Register as Name}
 use Rattle.ir_core.specs.declared.operand.Operand.TheVariants as operands
 use Rattle.ir_core.specs.declared.operand.Register.TheVariants as registers
@@ -20,95 +20,98 @@ pub record IsSameInst (old new : Function) (b p : ℕ) : Type 0 where
   pub is : IsInst new b p inst
   pub once : IsUsedOnce new (registers.Result b p) → IsUsedOnce old (registers.Result b p)
 
-module _ (was now : Knowledge) (rules : List Rule) (ready : AreReady rules) (old new : Function) (b n depth : ℕ)
+-- what stands in the block of a root is in scope of what the root names
+of_root : (across : Bool) (b c p q d k : ℕ) → d ≡ b → IsInScope across c p d k → IsInScope across b q c p
+of_root false b c p q d k same scope = sym same ∙ sym scope
+of_root true b c p q d k same scope = tt
+
+module _ (across : Bool) (was now : Knowledge) (rules : List Rule) (ready : AreReady rules) (old new : Function) (b n depth : ℕ)
     (few : (r : ℕ) (rule : Rule) → slice_get rules r ≡ Some rule → (length rule.source ≤ suc depth) × ((name : Name) → AsksBitsOf rule name → length rule.source ≤ depth))
     (reached_on : IsReached old b → IsReached new b) (reached_back : IsReached new b → IsReached old b)
-    (G : ℕ → ℕ → Type 0) (root : G 0 n)
-    (more : (t p q i : ℕ) (r : Read) → t < depth → G t p → IsRead new b p i r → r.operand ≡ operands.Register (registers.Result b q) → G (suc t) q)
-    (same : (t p : ℕ) → t ≤ depth → G t p → IsSameInst old new b p)
-    (once_or_not : (p : ℕ) → IsUsedOnce new (registers.Result b p) ⊎ ¬ IsUsedOnce new (registers.Result b p))
-    (bits : AskBits rules → IsReached new b → (x : Operand) → ((p : ℕ) → x ≡ operands.Register (registers.Result b p) → (t : ℕ) × (t ≤ depth) × G t p) → was b n x ≡ now b n x) where
+    (G : ℕ → ℕ → ℕ → Type 0) (root : G 0 b n)
+    (more : (t c p e q i : ℕ) (r : Read) → t < depth → G t c p → IsRead new c p i r → r.operand ≡ operands.Register (registers.Result e q) → IsInScope across e q c p → G (suc t) e q)
+    (same : (t c p : ℕ) → t ≤ depth → G t c p → IsSameInst old new c p)
+    (once_or_not : (c p : ℕ) → IsUsedOnce new (registers.Result c p) ⊎ ¬ IsUsedOnce new (registers.Result c p))
+    (bits : AskBits rules → IsReached new b → (x : Operand) → ((p : ℕ) → x ≡ operands.Register (registers.Result b p) → (t : ℕ) × (t ≤ depth) × G t b p) → was b n x ≡ now b n x) where
   -- the instructions that statements are bound to are the same
   module _ (m : Match) (of : IsAt b n m) (rule : Rule) (at_rule : slice_get rules m.rule ≡ Some rule) where
     abbrev x : Binding
     x = m.binding
 
-    root_here : G 0 x.place
-    root_here = subst (G 0) (sym of.1) root
+    root_here : G 0 x.block x.place
+    root_here = subst (λ (c : ℕ). G 0 c x.place) (sym of.0) (subst (G 0 b) (sym of.1) root)
 
-    abbrev Bound : ℕ → ℕ → Type 0
-    Bound j p = slice_get x.statements j ≡ Some (registers.Result x.block p)
+    abbrev Bound : ℕ → ℕ → ℕ → Type 0
+    Bound j c p = slice_get x.statements j ≡ Some (registers.Result c p)
 
     -- for a match in the new function
-    module _ (is : MatchesInAnyOrder now new x.block x.place rule x) where
-      now_comes : (j p : ℕ) → Bound j p → (t : ℕ) × (t + suc j ≤ length rule.source) × G t p
-      now_comes j p at =
-          each_come new rule x (ready m.rule rule at_rule).checks is G root_here (λ t p q i s inst r less g is_inst operation is_read reads.
-          more t p q i r (let most = (few m.rule rule at_rule).0 in omega (arith, most, less)) g (subst (λ (c : ℕ). IsRead new c p i r) of.0 is_read) (reads ∙ ap (λ (c : ℕ). operands.Register (registers.Result c q)) of.0)) j p at
+    module _ (is : MatchesInAnyOrder across now new x.block x.place rule x) where
+      now_comes : (j c p : ℕ) → Bound j c p → (t : ℕ) × (t + suc j ≤ length rule.source) × G t c p
+      now_comes j c p at =
+          each_come across new rule x (ready m.rule rule at_rule).checks is G root_here (λ t c p e q i s inst r less g is_inst operation is_read reads scope.
+          more t c p e q i r (let most = (few m.rule rule at_rule).0 in omega (arith, most, less)) g is_read reads scope) j c p at
 
-      now_same : (j p : ℕ) → Bound j p → IsSameInst old new b p
-      now_same j p at =
-          let (t, near, g) = now_comes j p at in
-          same t p (let most = (few m.rule rule at_rule).0 in omega (arith, most, near)) g
+      now_same : (j c p : ℕ) → Bound j c p → IsSameInst old new c p
+      now_same j c p at =
+          let (t, near, g) = now_comes j c p at in
+          same t c p (let most = (few m.rule rule at_rule).0 in omega (arith, most, near)) g
 
       -- what it names is read one further from the root
-      now_named : (name : Name) (y : Operand) → AsksBitsOf rule name → operand_for x name ≡ Some y → (p : ℕ) → y ≡ operands.Register (registers.Result b p) → (t : ℕ) × (t ≤ depth) × G t p
+      now_named : (name : Name) (y : Operand) → AsksBitsOf rule name → operand_for x name ≡ Some y → (p : ℕ) → y ≡ operands.Register (registers.Result b p) → (t : ℕ) × (t ≤ depth) × G t b p
       now_named name y asks at p is_y =
           let good = (ready m.rule rule at_rule).checks in
           let by = named_read new rule x good is name y (asked_before_root rule name good asks) at in
-          let (t, near, g) = now_comes by.i by.matched.place by.matched.bound in
+          let (t, near, g) = now_comes by.i by.matched.block by.matched.place by.matched.bound in
           let most : length rule.source ≤ depth = (few m.rule rule at_rule).1 name asks in
-          (suc t, omega (arith, most, near), more t by.matched.place p by.n by.r (omega (arith, most, near)) g (subst (λ (c : ℕ). IsRead new c by.matched.place by.n by.r) of.0 by.is_read_there) (by.reads ∙ is_y))
+          let scope = of_root across b by.matched.block by.matched.place p x.block x.place of.0 (in_scope across new x.block x.place rule x is by.i by.matched.block by.matched.place by.matched.bound) in
+          (suc t, omega (arith, most, near), more t by.matched.block by.matched.place b p by.n by.r (omega (arith, most, near)) g by.is_read_there (by.reads ∙ is_y) scope)
 
       now_known : (name : Name) (y : Operand) → AsksBitsOf rule name → operand_for x name ≡ Some y → now x.block x.place y ≡ was x.block x.place y
       now_known name y asks at =
           let here : was b n y ≡ now b n y = bits (m.rule, rule, name, at_rule, asks) (subst (IsReached new) of.0 is.reached) y (now_named name y asks at) in
           rw (of.0, of.1) (sym here)
 
-      pub was_there : MatchesInAnyOrder was old x.block x.place rule x
+      pub was_there : MatchesInAnyOrder across was old x.block x.place rule x
       was_there = match_too now was new old x.block x.place rule x is
-          (λ j p inst at is_inst.
-          let u = now_same j p at in
-          let equal : u.inst ≡ inst = same_inst new b p u.inst inst u.is (subst (λ (c : ℕ). IsInst new c p inst) of.0 is_inst) in
-          subst (λ (c : ℕ). IsInst old c p inst) (sym of.0) (subst (IsInst old b p) equal u.was))
+          (λ j c p inst at is_inst.
+          let u = now_same j c p at in
+          subst (IsInst old c p) (same_inst new c p u.inst inst u.is is_inst) u.was)
           (subst (λ (c : ℕ). IsReached new c → IsReached old c) (sym of.0) reached_back)
           (λ j r asked at.
-          let (p, is_r, bound) = bound_there new rule x (ready m.rule rule at_rule).checks is j r at in
-          let here : registers.Result x.block p ≡ registers.Result b p = ap (λ (c : ℕ). registers.Result c p) of.0 in
-          let once : IsUsedOnce new (registers.Result b p) = subst (IsUsedOnce new) (is_r ∙ here) (is.one_use j r asked at) in
-          subst (IsUsedOnce old) (sym (is_r ∙ here)) ((now_same j p bound).once once))
+          let (c, p, is_r, bound) = bound_there new rule x (ready m.rule rule at_rule).checks is j r at in
+          let once : IsUsedOnce new (registers.Result c p) = subst (IsUsedOnce new) is_r (is.one_use j r asked at) in
+          subst (IsUsedOnce old) (sym is_r) ((now_same j c p bound).once once))
           now_known
 
     -- for a match in the old one
-    module _ (is : MatchesInAnyOrder was old x.block x.place rule x) where
-      step : (t p q i : ℕ) (s : RuleOp) (inst : Inst) (r : Read) → t < depth → G t p → IsInst old x.block p inst → IsSameOperation s inst.op → IsRead old x.block p i r
-          → r.operand ≡ operands.Register (registers.Result b q) → G (suc t) q
-      step t p q i s inst r less g is_inst operation is_read reads =
-          let u = same t p (omega (arith, less)) g in
-          let before : IsInst old b p inst = subst (λ (c : ℕ). IsInst old c p inst) of.0 is_inst in
-          let after : IsInst new b p inst = subst (IsInst new b p) (same_inst old b p u.inst inst u.was before) u.is in
-          let read_old : IsRead old b p i r = subst (λ (c : ℕ). IsRead old c p i r) of.0 is_read in
-          let read_new : IsRead new b p i r =
-          ap (λ (l : List Read). slice_get l i) (reads_at_inst new b p inst after ∙ sym (same_reads old new b p inst.width s inst.op operation) ∙ sym (reads_at_inst old b p inst before)) ∙ read_old in
-          more t p q i r less g read_new reads
+    module _ (is : MatchesInAnyOrder across was old x.block x.place rule x) where
+      step : (t c p e q i : ℕ) (s : RuleOp) (inst : Inst) (r : Read) → t < depth → G t c p → IsInst old c p inst → IsSameOperation s inst.op → IsRead old c p i r
+          → r.operand ≡ operands.Register (registers.Result e q) → IsInScope across e q c p → G (suc t) e q
+      step t c p e q i s inst r less g is_inst operation is_read reads scope =
+          let u = same t c p (omega (arith, less)) g in
+          let after : IsInst new c p inst = subst (IsInst new c p) (same_inst old c p u.inst inst u.was is_inst) u.is in
+          let read_new : IsRead new c p i r =
+          ap (λ (l : List Read). slice_get l i) (reads_at_inst new c p inst after ∙ sym (same_reads old new c p inst.width s inst.op operation) ∙ sym (reads_at_inst old c p inst is_inst)) ∙ is_read in
+          more t c p e q i r less g read_new reads scope
 
-      then_comes : (j p : ℕ) → Bound j p → (t : ℕ) × (t + suc j ≤ length rule.source) × G t p
-      then_comes j p at =
-          each_come old rule x (ready m.rule rule at_rule).checks is G root_here (λ t p q i s inst r less g is_inst operation is_read reads.
-          step t p q i s inst r (let most = (few m.rule rule at_rule).0 in omega (arith, most, less)) g is_inst operation is_read (reads ∙ ap (λ (c : ℕ). operands.Register (registers.Result c q)) of.0)) j p at
+      then_comes : (j c p : ℕ) → Bound j c p → (t : ℕ) × (t + suc j ≤ length rule.source) × G t c p
+      then_comes j c p at =
+          each_come across old rule x (ready m.rule rule at_rule).checks is G root_here (λ t c p e q i s inst r less g is_inst operation is_read reads scope.
+          step t c p e q i s inst r (let most = (few m.rule rule at_rule).0 in omega (arith, most, less)) g is_inst operation is_read reads scope) j c p at
 
-      then_same : (j p : ℕ) → Bound j p → IsSameInst old new b p
-      then_same j p at =
-          let (t, near, g) = then_comes j p at in
-          same t p (let most = (few m.rule rule at_rule).0 in omega (arith, most, near)) g
+      then_same : (j c p : ℕ) → Bound j c p → IsSameInst old new c p
+      then_same j c p at =
+          let (t, near, g) = then_comes j c p at in
+          same t c p (let most = (few m.rule rule at_rule).0 in omega (arith, most, near)) g
 
-      then_named : (name : Name) (y : Operand) → AsksBitsOf rule name → operand_for x name ≡ Some y → (p : ℕ) → y ≡ operands.Register (registers.Result b p) → (t : ℕ) × (t ≤ depth) × G t p
+      then_named : (name : Name) (y : Operand) → AsksBitsOf rule name → operand_for x name ≡ Some y → (p : ℕ) → y ≡ operands.Register (registers.Result b p) → (t : ℕ) × (t ≤ depth) × G t b p
       then_named name y asks at p is_y =
           let good = (ready m.rule rule at_rule).checks in
           let by = named_read old rule x good is name y (asked_before_root rule name good asks) at in
-          let (t, near, g) = then_comes by.i by.matched.place by.matched.bound in
+          let (t, near, g) = then_comes by.i by.matched.block by.matched.place by.matched.bound in
           let most : length rule.source ≤ depth = (few m.rule rule at_rule).1 name asks in
-          (suc t, omega (arith, most, near), step t by.matched.place p by.n by.s.op by.matched.inst by.r (omega (arith, most, near)) g by.matched.is_inst by.matched.matches.operation by.is_read_there (by.reads ∙ is_y))
+          let scope = of_root across b by.matched.block by.matched.place p x.block x.place of.0 (in_scope across old x.block x.place rule x is by.i by.matched.block by.matched.place by.matched.bound) in
+          (suc t, omega (arith, most, near), step t by.matched.block by.matched.place b p by.n by.s.op by.matched.inst by.r (omega (arith, most, near)) g by.matched.is_inst by.matched.matches.operation by.is_read_there (by.reads ∙ is_y) scope)
 
       then_known : (name : Name) (y : Operand) → AsksBitsOf rule name → operand_for x name ≡ Some y → was x.block x.place y ≡ now x.block x.place y
       then_known name y asks at =
@@ -124,9 +127,8 @@ module _ (was now : Knowledge) (rules : List Rule) (ready : AreReady rules) (old
 
       register_or_not : (j : ℕ) (r : Register) → slice_get x.statements j ≡ Some r → IsUsedOnce new r ⊎ ¬ IsUsedOnce new r
       register_or_not j r at =
-          let (p, is_r, bound) = bound_there old rule x (ready m.rule rule at_rule).checks is j r at in
-          let here : registers.Result b p ≡ r = sym (is_r ∙ ap (λ (c : ℕ). registers.Result c p) of.0) in
-          subst (λ (s : Register). IsUsedOnce new s ⊎ ¬ IsUsedOnce new s) here (once_or_not p)
+          let (c, p, is_r, bound) = bound_there old rule x (ready m.rule rule at_rule).checks is j r at in
+          subst (λ (s : Register). IsUsedOnce new s ⊎ ¬ IsUsedOnce new s) (sym is_r) (once_or_not c p)
 
       statement_or_not : (j : ℕ) → IsOneUse (formulas.HasOneUse j) ⊎ ¬ IsOneUse (formulas.HasOneUse j)
       statement_or_not j = elim (slice_get_cases x.statements j).1 [
@@ -163,17 +165,16 @@ module _ (was now : Knowledge) (rules : List Rule) (ready : AreReady rules) (old
         ]
       ]
 
-      is_there : AreUsedOnce rule.precondition → MatchesInAnyOrder now new x.block x.place rule x
+      is_there : AreUsedOnce rule.precondition → MatchesInAnyOrder across now new x.block x.place rule x
       is_there uses = match_too was now old new x.block x.place rule x is
-          (λ j p inst at is_inst.
-          let u = then_same j p at in
-          let equal : u.inst ≡ inst = same_inst old b p u.inst inst u.was (subst (λ (c : ℕ). IsInst old c p inst) of.0 is_inst) in
-          subst (λ (c : ℕ). IsInst new c p inst) (sym of.0) (subst (IsInst new b p) equal u.is))
+          (λ j c p inst at is_inst.
+          let u = then_same j c p at in
+          subst (IsInst new c p) (same_inst old c p u.inst inst u.was is_inst) u.is)
           (subst (λ (c : ℕ). IsReached old c → IsReached new c) (sym of.0) reached_on)
           uses
           then_known
 
-      pub there_or_not : MatchesInAnyOrder now new x.block x.place rule x ⊎ ¬ MatchesInAnyOrder now new x.block x.place rule x
+      pub there_or_not : MatchesInAnyOrder across now new x.block x.place rule x ⊎ ¬ MatchesInAnyOrder across now new x.block x.place rule x
       there_or_not = elim (formulas_or_not rule.precondition) [
         | inl uses ↦ inl (is_there uses)
         | inr other ↦ inr (λ there. other there.one_use)
@@ -181,24 +182,24 @@ module _ (was now : Knowledge) (rules : List Rule) (ready : AreReady rules) (old
 
   -- ---- the matches at the instruction
 
-  match_was : (m : Match) → IsAt b n m → IsMatchInAnyOrder now rules new m → IsMatchInAnyOrder was rules old m
+  match_was : (m : Match) → IsAt b n m → IsMatchInAnyOrder across now rules new m → IsMatchInAnyOrder across was rules old m
   match_was m of is = record { rule = is.rule; is_rule = is.is_rule; matches = was_there m of is.rule is.is_rule is.matches }
 
-  match_or_not : (m : Match) → IsAt b n m → IsMatchInAnyOrder was rules old m → IsMatchInAnyOrder now rules new m ⊎ ¬ IsMatchInAnyOrder now rules new m
+  match_or_not : (m : Match) → IsAt b n m → IsMatchInAnyOrder across was rules old m → IsMatchInAnyOrder across now rules new m ⊎ ¬ IsMatchInAnyOrder across now rules new m
   match_or_not m of is = elim (there_or_not m of is.rule is.is_rule is.matches) [
     | inl there ↦ inl (record { rule = is.rule; is_rule = is.is_rule; matches = there })
-    | inr other ↦ inr (λ there. other (subst (λ (r : Rule). MatchesInAnyOrder now new m.binding.block m.binding.place r m.binding) (same_Some there.rule is.rule (sym there.is_rule ∙ is.is_rule)) there.matches))
+    | inr other ↦ inr (λ there. other (subst (λ (r : Rule). MatchesInAnyOrder across now new m.binding.block m.binding.place r m.binding) (same_Some there.rule is.rule (sym there.is_rule ∙ is.is_rule)) there.matches))
   ]
 
   pub record StillThere (ms : List Match) : Type 0 where
     pub matches : List Match
-    pub are : AreMatchesInAnyOrder now rules new (IsAt b n) matches
+    pub are : AreMatchesInAnyOrder across now rules new (IsAt b n) matches
     pub were : (m : Match) → Contains matches m → Contains ms m
 
-  pub still_there : (ms : List Match) → AreMatchesInAnyOrder was rules old (IsAt b n) ms → StillThere ms
+  pub still_there : (ms : List Match) → AreMatchesInAnyOrder across was rules old (IsAt b n) ms → StillThere ms
   still_there ms found =
-      let each : (m : Match) → Contains ms m → IsMatchInAnyOrder was rules old m × IsAt b n m = λ m has. All-contains (λ y. IsMatchInAnyOrder was rules old y × IsAt b n y) ms m found.each has in
-      let rest : Filtered (IsMatchInAnyOrder now rules new) ComesBefore ms = filtered (IsMatchInAnyOrder now rules new) ComesBefore ms (λ m has. let h = each m has in match_or_not m h.1 h.0) in
+      let each : (m : Match) → Contains ms m → IsMatchInAnyOrder across was rules old m × IsAt b n m = λ m has. All-contains (λ y. IsMatchInAnyOrder across was rules old y × IsAt b n y) ms m found.each has in
+      let rest : Filtered (IsMatchInAnyOrder across now rules new) ComesBefore ms = filtered (IsMatchInAnyOrder across now rules new) ComesBefore ms (λ m has. let h = each m has in match_or_not m h.1 h.0) in
       record {
         matches = rest.kept;
         are = record {

@@ -1,5 +1,5 @@
 -- The laws of matches in drafts.
-use Rattle.std.specs.Prelude.{◌≡◌, ◌↔◌, ◌≤◌, ℕ, suc, List, length, map, Some, Contains, slice_get}
+use Rattle.std.specs.Prelude.{◌≡◌, ◌↔◌, ◌≤◌, ℕ, suc, Bool, List, length, map, Some, Contains, slice_get}
 use Rattle.ir_core.specs.Checks.{MeetsChecks}
 use Rattle.ir_core.specs.Walks.{IsReached}
 use Rattle.ir_core.specs.declared.operand.Operand.{Operand}
@@ -22,15 +22,15 @@ use Rattle.draft_steps.specs.Arranged.{KnowsTheFunction}
 abbrev pub placed_match : Draft → Match → Match
 placed_match d m = record { rule = m.rule; binding = placed_binding d m.binding }
 
--- The matches at an instruction of the arena, whatever the order of the numbers that their statements have, are those at
--- its position in the draft's function, with numbers in place of positions; where a rule asks for bits, if what is known
--- at the instruction is what is known there.
+-- The matches at an instruction of the arena, whatever the order of the numbers that their statements have, are those
+-- at its position in the draft's function, with numbers in place of positions; where a rule asks for bits, if what is
+-- known at the instruction is what is known there.
 abbrev pub MatchesOfTheArena : Type 0
-MatchesOfTheArena = (known : Knowledge) (rules : List Rule) (d : Draft) (b n : ℕ) (matches : List Match)
+MatchesOfTheArena = (across : Bool) (known : Knowledge) (rules : List Rule) (d : Draft) (b n : ℕ) (matches : List Match)
     → AreReady rules → IsSettled d → MeetsChecks (function_of d) → Stands d b n
     → (AskBits rules → IsReached (arena_of d) b → KnowsTheFunction (arena_of d) (numbers_of d) known b n)
-    → AreMatchesInAnyOrder known rules (arena_of d) (IsAt b n) matches
-    → AreMatchesWhere rules (function_of d) (IsAt b (place_in (numbers_in d b) n)) (map (placed_match d) matches)
+    → AreMatchesInAnyOrder across known rules (arena_of d) (IsAt b n) matches
+    → AreMatchesWhere across rules (function_of d) (IsAt b (place_in (numbers_in d b) n)) (map (placed_match d) matches)
 
 -- No rule's source has more than `depth` + 1 statements, and one that asks for bits has one less: what an operand holds
 -- that it names is one further from the root than a statement.
@@ -45,12 +45,12 @@ KnowsTheUntouched was now new touched b n = (x : Operand)
     → ((m : ℕ) → x ≡ operands.Register (registers.Result b m) → Stands new b m × ¬ Contains touched (record { block = b; number = m }))
     → was b n x ≡ now b n x
 
--- Where no chain of at most `depth` operands leads from an instruction to a touched one, it has no match that it didn't
--- have before.
+-- Where no chain of at most `depth` operands, in the block or across blocks, leads from an instruction to a touched
+-- one, it has no match that it didn't have before.
 abbrev pub MatchesOfTheUntouched : Type 0
-MatchesOfTheUntouched = (was now : Knowledge) (rules : List Rule) (old new : Draft) (touched : List Place) (depth b n : ℕ) (matches : List Match)
+MatchesOfTheUntouched = (across : Bool) (was now : Knowledge) (rules : List Rule) (old new : Draft) (touched : List Place) (depth b n : ℕ) (matches : List Match)
     → AreReady rules → AreSourcesWithin depth rules → IsSettled new → AreTouched old new touched → (IsReached (arena_of old) b ↔ IsReached (arena_of new) b)
-    → Stands new b n → ((m : ℕ) → Reaches new depth b n m → ¬ Contains touched (record { block = b; number = m }))
+    → Stands new b n → ((c m : ℕ) → Reaches across new depth b n c m → ¬ Contains touched (record { block = c; number = m }))
     → (AskBits rules → IsReached (arena_of new) b → KnowsTheUntouched was now new touched b n)
-    → AreMatchesInAnyOrder was rules (arena_of old) (IsAt b n) matches
-    → (kept : List Match) × AreMatchesInAnyOrder now rules (arena_of new) (IsAt b n) kept × ((m : Match) → Contains kept m → Contains matches m)
+    → AreMatchesInAnyOrder across was rules (arena_of old) (IsAt b n) matches
+    → (kept : List Match) × AreMatchesInAnyOrder across now rules (arena_of new) (IsAt b n) kept × ((m : Match) → Contains kept m → Contains matches m)

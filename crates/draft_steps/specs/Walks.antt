@@ -1,10 +1,11 @@
--- Searches along def-use chains, from instructions to their users in the same block.
-use Rattle.std.specs.Prelude.{◌≡◌, ◌⊎◌, ℕ, ◌++◌, List, [], length, All, Contains}
+-- Searches along def-use chains, from instructions to their users in the same block, or across blocks.
+use Rattle.std.specs.Prelude.{◌≡◌, ◌⊎◌, ℕ, Bool, ◌++◌, List, [], length, All, Contains}
 use Rattle.draft.specs.declared.draft.Draft.{Draft}
 use Rattle.places.specs.declared.place.Place.{Place}
 use Rattle.draft_steps.specs.declared.walk.Walk.{Walk}
 use Rattle.ir_core.specs.Blocks.{HasInst}
 use Rattle.ir_core.specs.declared.operand.Register.TheVariants as registers
+use Rattle.bindings.specs.Match.{IsInScope}
 use Rattle.draft.specs.Drafts.{Reaches, Stands}
 use Rattle.readers.specs.Readers.{IsReader}
 use Rattle.places.specs.Sets.{Has}
@@ -39,9 +40,9 @@ pub record IsSameDraft (old new : Draft) : Type 0 where
   pub stand : new.stand.items ≡ old.stand.items
   pub dead_candidates : new.dead_candidates.items ≡ old.dead_candidates.items
 
--- it found the users of an instruction that stand in its block
-abbrev pub ReadersCame : Draft → Walk → Place → Type 0
-ReadersCame d w p = (n : ℕ) → Stands d p.block n → IsReader d.arena (registers.Result p.block p.number) (record { block = p.block; number = n }) → Came w p.block n
+-- it found the users of an instruction that stand, in its block or across blocks
+abbrev pub ReadersCame : Bool → Draft → Walk → Place → Type 0
+ReadersCame across d w p = (b n : ℕ) → IsInScope across p.block p.number b n → Stands d b n → IsReader d.arena (registers.Result p.block p.number) (record { block = b; number = n }) → Came w b n
 
 -- what the new search found and the old one didn't is such an instruction
 abbrev pub CameOnlyTo : (ℕ → ℕ → Type 0) → Walk → Walk → Type 0
@@ -54,14 +55,14 @@ StandsAt d p b n = Stands d b n × (p ≡ record { block = b; number = n })
 abbrev pub StandsAtOneOf : Draft → List Place → ℕ → ℕ → Type 0
 StandsAtOneOf d places b n = Stands d b n × Contains places (record { block = b; number = n })
 
--- instruction n of block b stands, and is a user of the one at this place of its block, or at one of these places
-abbrev pub ReadsHere : Draft → Place → ℕ → ℕ → Type 0
-ReadsHere d p b n = (b ≡ p.block) × Stands d b n × IsReader d.arena (registers.Result p.block p.number) (record { block = b; number = n })
+-- instruction n of block b stands, and is a user of the one at this place, in its block or across blocks, or at one of
+-- these places
+abbrev pub ReadsHere : Bool → Draft → Place → ℕ → ℕ → Type 0
+ReadsHere across d p b n = IsInScope across p.block p.number b n × Stands d b n × IsReader d.arena (registers.Result p.block p.number) (record { block = b; number = n })
 
-abbrev pub ReadsOneOf : Draft → List Place → ℕ → ℕ → Type 0
-ReadsOneOf d places b n = (p : Place) × Contains places p × ReadsHere d p b n
+abbrev pub ReadsOneOf : Bool → Draft → List Place → ℕ → ℕ → Type 0
+ReadsOneOf across d places b n = (p : Place) × Contains places p × ReadsHere across d p b n
 
--- instruction n of block b stands, and reads from one of these places through a chain of at most so many operands in
--- its block
-abbrev pub ReachesOneOf : Draft → ℕ → List Place → ℕ → ℕ → Type 0
-ReachesOneOf d depth places b n = (p : Place) × Contains places p × (b ≡ p.block) × Stands d b n × Reaches d depth b n p.number
+-- instruction n of block b stands, and reads from one of these places through a chain of at most so many operands
+abbrev pub ReachesOneOf : Bool → Draft → ℕ → List Place → ℕ → ℕ → Type 0
+ReachesOneOf across d depth places b n = (p : Place) × Contains places p × Stands d b n × Reaches across d depth b n p.block p.number

@@ -4,7 +4,7 @@ ghost use Rattle.draft.specs.KeptOrders.{PutsKeepOrders, KeepingIsTransitive};
 ghost use Rattle.draft_steps.specs.DraftWorklists.{WorklistsStay};
 ghost use Rattle.draft_steps.specs.MatchLaws.{MatchesOfTheArena, MatchesOfTheUntouched};
 
-use bindings::{reads_of_a_block_stand_before, temporaries_stand_before_roots};
+use bindings::temporaries_stand_before_roots;
 
 /// Where a new number is inserted before another, all old numbers keep their order, and a worklist stays one.
 pub fn orders_are_kept()
@@ -18,7 +18,6 @@ pub fn matches_of_the_arena()
     ensures { MatchesOfTheArena }
 {
     temporaries_stand_before_roots();
-    reads_of_a_block_stand_before();
 }
 
 /// An instruction from which no chain of operands leads to a touched one has no match that it didn't have before.

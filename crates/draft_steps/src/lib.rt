@@ -1,5 +1,6 @@
 //! Rewriting of drafts: steps, in each of which a rule is applied and the dead code that this leaves is removed;
-//! worklists of instructions; searches along def-use chains inside a block; and which matches a draft has.
+//! worklists of instructions; searches along def-use chains, inside a block or across blocks; and which matches a draft
+//! has.
 //!
 //! What changes a draft takes it by value, and gives it back changed: where memory is refused halfway, it is dropped.
 //!

@@ -1,6 +1,6 @@
 //! One step of rewriting.
 
-ghost use Rattle.std.specs.Prelude.{ℕ, suc, All, Contains, IfOk, OnOk};
+ghost use Rattle.std.specs.Prelude.{ℕ, suc, All, Bool, Contains, IfOk, OnOk};
 ghost use Rattle.ir_core.specs.Checks.{MeetsChecks};
 ghost use Rattle.ir_core.specs.declared.function.Function.{Function as Written};
 ghost use Rattle.rule_core.specs.Checks.{IsRule};
@@ -19,7 +19,7 @@ ghost use Rattle.places.specs.declared.place.Place.{Place as Spot};
 
 use crate::dead_code::eliminate_dead_code;
 use crate::rewriting::{Rewritten, rewrite_draft};
-use bindings::{Binding, reads_of_a_block_stand_before};
+use bindings::Binding;
 use draft::Draft;
 use ir_core::{Function, Register};
 use places::Place;
@@ -47,7 +47,7 @@ pub fn step(
     requires numbers { NumbersFit (function_of draft) }
     requires rule { IsRule rule.now }
     requires typed { HasNoFault rule.now }
-    requires matches { let m = placed_binding draft binding.now in IsMatch (function_of draft) m.block m.place rule.now m }
+    requires matches { let m = placed_binding draft binding.now in (across : Bool) × IsMatch across (function_of draft) m.block m.place rule.now m }
     requires room { HasRoomFor 1 draft }
     ensures settled { IfOk result (λ stepped. IsSettled stepped.0) }
     ensures clean { IfOk result (λ stepped. HasNoDeadCode stepped.0) }
@@ -75,7 +75,7 @@ pub fn apply(
     requires settled { IsSettled draft }
     requires checks { MeetsChecks (function_of draft) }
     requires rule { IsRule rule.now }
-    requires matches { let m = placed_binding draft binding.now in IsMatch (function_of draft) m.block m.place rule.now m }
+    requires matches { let m = placed_binding draft binding.now in (across : Bool) × IsMatch across (function_of draft) m.block m.place rule.now m }
     requires room { HasRoomFor 1 draft }
     ensures { IfOk result (λ f. IsRewritten (function_of draft) (placed_binding draft binding.now) rule.now f) }
 {
@@ -94,12 +94,11 @@ fn applied_draft(
     requires settled { IsSettled draft }
     requires checks { MeetsChecks (function_of draft) }
     requires rule { IsRule rule.now }
-    requires matches { let m = placed_binding draft binding.now in IsMatch (function_of draft) m.block m.place rule.now m }
+    requires matches { let m = placed_binding draft binding.now in (across : Bool) × IsMatch across (function_of draft) m.block m.place rule.now m }
     requires room { HasRoomFor 1 draft }
     ensures settled { IfOk result IsSettled }
     ensures applied { IfOk result (λ made. IsRewritten (function_of draft) (placed_binding draft binding.now) rule.now (function_of made)) }
 {
-    reads_of_a_block_stand_before();
     let mut applied = draft;
     let told = rewrite_draft(alloc, &mut applied, binding, rule)?;
 
@@ -122,7 +121,7 @@ fn step_in(
     requires numbers { NumbersFit (function_of draft.old) }
     requires rule { IsRule rule.now }
     requires typed { HasNoFault rule.now }
-    requires matches { let m = placed_binding draft.old binding.now in IsMatch (function_of draft.old) m.block m.place rule.now m }
+    requires matches { let m = placed_binding draft.old binding.now in (across : Bool) × IsMatch across (function_of draft.old) m.block m.place rule.now m }
     requires room { HasRoomFor 1 draft.old }
     ensures settled { OnOk result (IsSettled draft.new) }
     ensures clean { OnOk result (HasNoDeadCode draft.new) }
@@ -134,7 +133,6 @@ fn step_in(
     ensures root { IfOk result (λ places. Contains places.items (record { block = binding.now.block; number = binding.now.place })) }
     ensures places { IfOk result (λ places. All (IsPlaceIn (arena_of draft.new)) places.items) }
 {
-    reads_of_a_block_stand_before();
     rewritten_functions_meet_checks();
     let rewritten = rewrite_draft(alloc, draft, binding, rule)?;
     let used = eliminate_dead_code(alloc, draft, &rewritten)?;

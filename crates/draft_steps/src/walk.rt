@@ -1,6 +1,7 @@
-//! Searches along def-use chains, from instructions to their users in the same block, level by level.
+//! Searches along def-use chains, from instructions to their users in the same block or across blocks, level by level.
 
-ghost use Rattle.std.specs.Prelude.{◌<◌, ◌≤◌, ℕ, length, All, Contains, IfOk, OnOk};
+ghost use Rattle.std.specs.Prelude.{◌<◌, ◌≤◌, ◌↔◌, ℕ, length, All, Contains, IfOk, IsTrue, OnOk};
+ghost use Rattle.bindings.specs.Match.{IsInScope};
 ghost use Rattle.ir_core.specs.Blocks.{HasInst};
 ghost use Rattle.draft.specs.Drafts.{Stands, Reaches};
 ghost use Rattle.places.specs.Heaps.{place_at};
@@ -32,29 +33,30 @@ impl Walk {
         Ok(Walk { reached, found })
     }
 
-    /// Finds these instructions and those that read from them through chains of at most so many operands in their
-    /// block, as far as they stand.
+    /// Finds these instructions and those that read from them through chains of at most so many operands, in their
+    /// block or across blocks, as far as they stand.
     pub(crate) fn reach(
         &mut self,
         alloc: Global,
         draft: &mut Draft,
         places: &[Place],
         depth: usize,
+        across: bool,
     ) -> Result<(), AllocError>
         requires settled { IsSettled draft.old }
         requires idle { IsIdle (length draft.old.arena.blocks) self.old }
         requires places { All (IsPlaceIn draft.old.arena) places.now }
         ensures draft { OnOk result (IsSameDraft draft.old draft.new) }
         ensures walk { OnOk result (IsWalk draft.new self.new) }
-        ensures reached { OnOk result ((p : Spot) (n : ℕ) → Contains places.now p → Stands draft.old p.block n
-            → Reaches draft.old depth p.block n p.number → Came self.new p.block n) }
-        ensures only { OnOk result ((b n : ℕ) → Came self.new b n → ReachesOneOf draft.old depth places.now b n) }
+        ensures reached { OnOk result ((p : Spot) (b n : ℕ) → Contains places.now p → Stands draft.old b n
+            → Reaches across draft.old depth b n p.block p.number → Came self.new b n) }
+        ensures only { OnOk result ((b n : ℕ) → Came self.new b n → ReachesOneOf across draft.old depth places.now b n) }
     {
         self.come_to_all(draft, places)?;
         let mut next = 0;
         for _level in 0..depth {
             let end = self.found.len();
-            self.follow(alloc, draft, next, end)?;
+            self.follow(alloc, draft, next, end, across)?;
             next = end;
         }
         Ok(())
@@ -93,6 +95,7 @@ impl Walk {
         draft: &mut Draft,
         from: usize,
         end: usize,
+        across: bool,
     ) -> Result<(), AllocError>
         requires whole { IsWhole draft.old }
         requires walk { IsWalk draft.old self.old }
@@ -100,22 +103,23 @@ impl Walk {
         ensures draft { OnOk result (IsSameDraft draft.old draft.new) }
         ensures walk { OnOk result (IsWalk draft.new self.new) }
         ensures further { OnOk result (IsFurther self.old self.new) }
-        ensures came { OnOk result ((k : ℕ) → from ≤ k → k < end → ReadersCame draft.old self.new (place_at self.old.found.items k)) }
-        ensures only { OnOk result (CameOnlyTo (ReadsOneOf draft.old self.old.found.items) self.old self.new) }
+        ensures came { OnOk result ((k : ℕ) → from ≤ k → k < end → ReadersCame across draft.old self.new (place_at self.old.found.items k)) }
+        ensures only { OnOk result (CameOnlyTo (ReadsOneOf across draft.old self.old.found.items) self.old self.new) }
     {
         for index in from..end {
             let place = self.found[index];
-            self.come_to_readers(alloc, draft, place)?;
+            self.come_to_readers(alloc, draft, place, across)?;
         }
         Ok(())
     }
 
-    /// Finds the users of an instruction that are in its block.
+    /// Finds the users of an instruction that are in its block, or in any block.
     fn come_to_readers(
         &mut self,
         alloc: Global,
         draft: &mut Draft,
         place: Place,
+        across: bool,
     ) -> Result<(), AllocError>
         requires whole { IsWhole draft.old }
         requires walk { IsWalk draft.old self.old }
@@ -123,13 +127,13 @@ impl Walk {
         ensures draft { OnOk result (IsSameDraft draft.old draft.new) }
         ensures walk { OnOk result (IsWalk draft.new self.new) }
         ensures further { OnOk result (IsFurther self.old self.new) }
-        ensures came { OnOk result (ReadersCame draft.old self.new place) }
-        ensures only { OnOk result (CameOnlyTo (ReadsHere draft.old place) self.old self.new) }
+        ensures came { OnOk result (ReadersCame across draft.old self.new place) }
+        ensures only { OnOk result (CameOnlyTo (ReadsHere across draft.old place) self.old self.new) }
     {
         let register = Register::Result(place.block, place.number);
         draft.trim_readers(alloc, register);
         for reader in draft.readers_of(register) {
-            if reader.block == place.block {
+            if is_in_scope(across, place, *reader) {
                 self.come_to(draft, *reader)?;
             }
         }
@@ -152,4 +156,11 @@ impl Walk {
         }
         Ok(())
     }
+}
+
+/// Whether a chain may go from an instruction to a user of its result: one of its block, or of any.
+fn is_in_scope(across: bool, place: Place, reader: Place) -> bool
+    ensures { IsTrue result ↔ IsInScope across place.block place.number reader.block reader.number }
+{
+    across || place.block == reader.block
 }

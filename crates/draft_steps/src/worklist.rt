@@ -99,15 +99,16 @@ impl DraftWorklist {
         self.waiting.take_first(draft.orders.as_slice())
     }
 
-    /// Adds these instructions and those that read from them through chains of at most so many operands in their block,
-    /// as far as they stand. Of the draft only use lists change, which are trimmed. Where memory is refused, both are
-    /// dropped.
+    /// Adds these instructions and those that read from them through chains of at most so many operands, in their block
+    /// or across blocks, as far as they stand. Of the draft only use lists change, which are trimmed. Where memory is
+    /// refused, both are dropped.
     pub fn insert_reaching(
         self,
         alloc: Global,
         draft: Draft,
         places: &[Place],
         depth: usize,
+        across: bool,
     ) -> Result<(DraftWorklist, Draft), AllocError>
         requires settled { IsSettled draft }
         requires worklist { IsWorklistOf draft self }
@@ -115,16 +116,16 @@ impl DraftWorklist {
         ensures draft { IfOk result (λ now. IsSameDraft draft now.1) }
         ensures worklist { IfOk result (λ now. IsWorklistOf now.1 now.0) }
         ensures stay { IfOk result (λ now. (b n : ℕ) → IsOnWorklist self b n → IsOnWorklist now.0 b n) }
-        ensures reaching { IfOk result (λ now. (p : Spot) (n : ℕ) → Contains places.now p → Stands draft p.block n
-            → Reaches draft depth p.block n p.number → IsOnWorklist now.0 p.block n) }
-        ensures only { IfOk result (λ now. (b n : ℕ) → IsOnWorklist now.0 b n → IsOnWorklist self b n ⊎ ReachesOneOf draft depth places.now b n) }
+        ensures reaching { IfOk result (λ now. (p : Spot) (b n : ℕ) → Contains places.now p → Stands draft b n
+            → Reaches across draft depth b n p.block p.number → IsOnWorklist now.0 b n) }
+        ensures only { IfOk result (λ now. (b n : ℕ) → IsOnWorklist now.0 b n → IsOnWorklist self b n ⊎ ReachesOneOf across draft depth places.now b n) }
     {
         let DraftWorklist {
             mut waiting,
             mut walk,
         } = self;
         let mut draft = draft;
-        walk.reach(alloc, &mut draft, places, depth)?;
+        walk.reach(alloc, &mut draft, places, depth, across)?;
         insert_all(&mut waiting, draft.orders.as_slice(), walk.found.as_slice())?;
         walk.clear();
         Ok((DraftWorklist { waiting, walk }, draft))

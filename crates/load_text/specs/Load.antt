@@ -58,7 +58,7 @@ pub record IsLoaded (number : ℕ) (text : List ℕ) (table : List Row) : Type 0
   pub counts : List ℕ
   pub limited : List Bool
   -- this module is what the plain strategy gives for the generated one, by this table
-  pub strategy : IsPlainStrategy false rules default_steps table (generated number 200) new counts limited
+  pub strategy : IsPlainStrategy false false rules default_steps table (generated number 200) new counts limited
   pub honest : IsHonestTable rules default_conflicts table
   -- each verdict of the table is `Admitted`
   pub admitted : All (λ row. row.verdict ≡ Admitted) table

@@ -14,7 +14,7 @@ use Rattle.load_text.specs.RuleText.{IsRuleText}
 pub record IsDoneByBuiltIn (m : Module) (done : Done) : Type 0 where
   pub rules : List Rule
   pub built_in : IsRuleText built_in_text rules
-  pub strategy : IsPlainStrategy false rules default_steps done.table m done.module done.counts done.limited
+  pub strategy : IsPlainStrategy false false rules default_steps done.table m done.module done.counts done.limited
   pub honest : IsHonestTable rules default_conflicts done.table
   pub admitted : All (λ row. row.verdict ≡ Admitted) done.table
 

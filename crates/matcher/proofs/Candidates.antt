@@ -1,5 +1,5 @@
 -- What is read off from the root of a match down.
-use Rattle.matcher.proofs.Common.{◌≡◌, inl, inr, ℕ, ◌+◌, ◌<◌, ◌≤◌, List, length, Option, Some, Ok, Err, sym, ap, subst, ◌∙◌, arith, slice_get, IfOk, Result, cases_eq, slice_get_cases, slice_get_within, get_or_from_slice_get, same_Some, width_of, Function, IsRule, SourceMayRead, operands_of, Argument, Rule, Statement, Contains-from_get, HasClasses, IsNamedInSource, HasNoFault, Knowledge, MatchesInAnyOrder, AreSlotsOf, IsFilledAs, Keeps, Knows, KnowsFrom, KnowsName, KnowsOperand, KnowsStatement, OperandsMatch, Binding, Slots, statement_at, SourceOperand, source_operand, met_at, place_of, all_filled, width_of_inst}
+use Rattle.matcher.proofs.Common.{◌≡◌, inl, inr, ℕ, ◌+◌, ◌<◌, ◌≤◌, List, length, Option, Some, Ok, Err, sym, ap, subst, ◌∙◌, arith, slice_get, IfOk, Result, cases_eq, slice_get_cases, slice_get_within, get_or_from_slice_get, same_Some, width_of, Function, IsRule, SourceMayRead, operands_of, Argument, Rule, Statement, Contains-from_get, HasClasses, IsNamedInSource, HasNoFault, Knowledge, MatchesWhere, AreSlotsOf, IsFilledAs, Keeps, Knows, KnowsFrom, KnowsName, KnowsOperand, KnowsStatement, OperandsMatch, Binding, Slots, statement_at, SourceOperand, source_operand, met_at, place_of, all_filled, width_of_inst}
 use Rattle.ir_core.specs.declared.operand.Register.TheVariants as registers
 use Rattle.rule_core.specs.declared.rule.Argument.TheVariants as arguments
 use Rattle.rule_core.specs.declared.rule.Operand.{Operand}
@@ -8,12 +8,12 @@ use Rattle.matcher.proofs.Knowing.{keeps_statement}
 use Rattle.matcher.proofs.Widths.{as_many, stable}
 
 -- the root is bound to the instruction at which the match is
-pub root_bound : {known : Knowledge} (f : Function) (b p : ℕ) (rule : Rule) (m : Binding) → MatchesInAnyOrder known f b p rule m → (k : ℕ) → k + 1 ≡ length rule.source → slice_get m.statements k ≡ Some (registers.Result b p)
+pub root_bound : {Before : ℕ → ℕ → ℕ → ℕ → Type 0} {known : Knowledge} (f : Function) (b p : ℕ) (rule : Rule) (m : Binding) → MatchesWhere Before known f b p rule m → (k : ℕ) → k + 1 ≡ length rule.source → slice_get m.statements k ≡ Some (registers.Result b p)
 root_bound f b p rule m is k last =
     let (s, at) = statement_at rule k (omega arith) in
     let bound = is.statements k s at in
-    let place : bound.place ≡ p = bound.matches.root (omega arith) ∙ is.place in
-    bound.bound ∙ ap (λ (x : ℕ). Some (registers.Result x bound.place)) is.block ∙ ap (λ (x : ℕ). Some (registers.Result b x)) place
+    let root = bound.matches.root (omega arith) in
+    bound.bound ∙ ap (λ (x : ℕ). Some (registers.Result x bound.place)) (root.0 ∙ is.block) ∙ ap (λ (x : ℕ). Some (registers.Result b x)) (root.1 ∙ is.place)
 
 -- the slots of an operand that a statement from j on has are filled
 known_operand : (rule : Rule) (j : ℕ) (slots : Slots) (m : Binding) (o : Operand) → KnowsFrom rule j slots m → (stands : SourceOperand rule o) → j ≤ stands.j → KnowsOperand slots m o
@@ -48,15 +48,15 @@ pub record Takes (f : Function) (slots : Slots) (m : Binding) (j : ℕ) (s : Sta
   pub typing : slice_get m.typing s.class ≡ Some N
   pub operands : OperandsMatch f m b p s.op
 
-pub takes : {known : Knowledge} (f : Function) (b p : ℕ) (rule : Rule) (slots : Slots) (m : Binding) (j : ℕ) (s : Statement) → IsRule rule → MatchesInAnyOrder known f b p rule m → slice_get rule.source j ≡ Some s → KnowsFrom rule (j + 1) slots m → Takes f slots m j s
+pub takes : {Before : ℕ → ℕ → ℕ → ℕ → Type 0} {known : Knowledge} (f : Function) (b p : ℕ) (rule : Rule) (slots : Slots) (m : Binding) (j : ℕ) (s : Statement) → IsRule rule → MatchesWhere Before known f b p rule m → slice_get rule.source j ≡ Some s → KnowsFrom rule (j + 1) slots m → Takes f slots m j s
 takes f b p rule slots m j s is_rule is at knows =
     let bound = is.statements j s at in
     record {
-      b = m.block;
+      b = bound.block;
       p = bound.place;
       N = bound.inst.width;
       stored = known_statement rule is_rule j slots m (slice_get_within rule.source j s at) knows ∙ ap (λ o. Some o) bound.bound;
-      width = width_of_inst f m.block bound.place bound.inst bound.is_inst;
+      width = width_of_inst f bound.block bound.place bound.inst bound.is_inst;
       typing = bound.matches.width;
       operands = λ i o at_i. let met = met_at f rule m j s bound i o at_i in (met.read, met.is_read, met.matches);
     }
@@ -109,7 +109,7 @@ later : (rule : Rule) (k : ℕ) (slots : Slots) (m : Binding) → KnowsFrom rule
 later rule k slots m knows = record { root = knows.root; fixed = knows.fixed; statements = λ i s late at. knows.statements i s (omega arith) at }
 
 -- in the end all slots are filled, with what the match has
-pub filled_as : {known : Knowledge} (f : Function) (b p : ℕ) (rule : Rule) (slots : Slots) (m : Binding) → IsRule rule → HasNoFault rule → MatchesInAnyOrder known f b p rule m → AreSlotsOf rule slots → KnowsFrom rule 0 slots m → IsFilledAs slots m
+pub filled_as : {Before : ℕ → ℕ → ℕ → ℕ → Type 0} {known : Knowledge} (f : Function) (b p : ℕ) (rule : Rule) (slots : Slots) (m : Binding) → IsRule rule → HasNoFault rule → MatchesWhere Before known f b p rule m → AreSlotsOf rule slots → KnowsFrom rule 0 slots m → IsFilledAs slots m
 filled_as f b p rule slots m is_rule no_fault is are knows =
     let widths : length slots.widths.items ≡ length m.typing = as_many rule m.typing (length slots.widths.items) is.typing are.widths in
     record {

@@ -1,16 +1,15 @@
 -- What the proofs of this crate cite of definitions, of other crates and of the libraries, passed on from one place.
-pub use Rattle.std.proofs.Common.{All, Contains, Err, IfNone, IfOk, IfSome, List, None, Ok, Option, Result, Some, [], ap, arith, false, get_or, inl, inr, length, length-append, map, refl, slice_get, slice_set, subst, suc, sym, take, true, vec_len, zero, ℕ, ◌++◌, ◌+◌, ◌-◌, ◌<◌, ◌∙◌, ◌∷◌, ◌≡◌, ◌≢◌, ◌≤◌, ◌⊎◌}
+pub use Rattle.std.proofs.Common.{All, Bool, Contains, Err, IfNone, IfOk, IfSome, List, None, Ok, Option, Result, Some, [], ap, arith, false, get_or, inl, inr, length, length-append, map, refl, slice_get, slice_set, subst, suc, sym, take, true, vec_len, zero, ℕ, ◌++◌, ◌+◌, ◌-◌, ◌<◌, ◌∙◌, ◌∷◌, ◌≡◌, ◌≢◌, ◌≤◌, ◌⊎◌}
 pub use Rattle.bindings.proofs.Bound.{read_off, same_block, same_place, statement_at}
 pub use Rattle.bindings.proofs.Fitting.{SourceOperand, met_at, source_operand}
 pub use Rattle.bindings.proofs.Knowing.{known_too}
 pub use Rattle.bindings.proofs.Lists.{all_filled, map_Some_same, no_gap, one_more_value, place_of, same_list, set_elsewhere, set_here, take_all}
 pub use Rattle.bindings.proofs.Naming.{constant_at, input_at, source_at, source_register, target_stands}
 pub use Rattle.bindings.proofs.Reading.{at_most_three, no_width, same_inst, width_of_inst}
-pub use Rattle.bindings.proofs.Roots.{in_any_order, match_here, match_there}
-pub use Rattle.bindings.specs.Checks.{IsRootOperation}
+pub use Rattle.bindings.proofs.Roots.{in_any_order, match_here, match_there, matched_operation}
 pub use Rattle.bindings.specs.Known.{Knowledge, known_by, known_in}
 pub use Rattle.bindings.specs.Laws.{TemporariesStandBefore}
-pub use Rattle.bindings.specs.Match.{IsMatch, MatchesInAnyOrder}
+pub use Rattle.bindings.specs.Match.{IsMatch, MatchesInAnyOrder, MatchesWhere}
 pub use Rattle.bindings.specs.Operands.{OperandMatches, StandsFor}
 pub use Rattle.bindings.specs.Statements.{StatementMatches}
 pub use Rattle.bindings.specs.declared.binding.Binding.{Binding}

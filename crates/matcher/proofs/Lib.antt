@@ -5,5 +5,4 @@ pub mod Widths
 pub mod SourceSlots
 pub mod Candidates
 pub mod OneBinding
-pub mod Rooted
 pub mod Ordered

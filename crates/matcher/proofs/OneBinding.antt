@@ -1,5 +1,5 @@
 -- A rule matches at an instruction with one binding at most.
-use Rattle.matcher.proofs.Common.{◌≡◌, inl, inr, ℕ, zero, suc, ◌+◌, ◌<◌, ◌≤◌, List, length, Some, sym, ap, subst, ◌∙◌, arith, slice_get, cases_eq, slice_get_cases, slice_get_within, same_Some, IsInst, IsRead, Function, Inst, Register, Number, IsRule, SourceMayRead, Fixed, operands_of, Argument, Rule, Statement, Contains-from_get, IsNamedInSource, HasNoFault, MatchesHaveOneBinding, Knowledge, MatchesInAnyOrder, StandsFor, OperandMatches, StatementMatches, Binding, same_place, SourceOperand, source_operand, met_at, place_of, same_list, same_inst, in_any_order}
+use Rattle.matcher.proofs.Common.{◌≡◌, inl, inr, ℕ, zero, suc, ◌+◌, ◌<◌, ◌≤◌, List, length, Some, sym, ap, subst, ◌∙◌, arith, slice_get, cases_eq, slice_get_cases, slice_get_within, same_Some, IsInst, IsRead, Function, Inst, Register, Number, IsRule, SourceMayRead, Fixed, operands_of, Argument, Rule, Statement, Contains-from_get, IsNamedInSource, HasNoFault, MatchesHaveOneBinding, Knowledge, MatchesWhere, StandsFor, OperandMatches, StatementMatches, Binding, same_block, same_place, SourceOperand, source_operand, met_at, place_of, same_list, same_inst}
 use Rattle.ir_core.specs.Reads.{Read}
 use Rattle.ir_core.specs.declared.operand.Operand.{Operand}
 use Rattle.ir_core.specs.declared.operand.Operand.TheVariants as operands
@@ -40,23 +40,22 @@ same_binding x y block place statements inputs constants typing =
     ∙ ap (λ v. made y.block y.place y.statements y.inputs v x.typing) constants
     ∙ ap (λ v. made y.block y.place y.statements y.inputs y.constants v) typing
 
-module _ (known : Knowledge) (f : Function) (b p : ℕ) (rule : Rule) (is_rule : IsRule rule) (x y : Binding) (is_x : MatchesInAnyOrder known f b p rule x) (is_y : MatchesInAnyOrder known f b p rule y) where
+module _ (Before : ℕ → ℕ → ℕ → ℕ → Type 0) (known : Knowledge) (f : Function) (b p : ℕ) (rule : Rule) (is_rule : IsRule rule) (x y : Binding) (is_x : MatchesWhere Before known f b p rule x) (is_y : MatchesWhere Before known f b p rule y) where
   -- both bindings have one register for statement j
   abbrev Agree : ℕ → Type 0
   Agree j = slice_get x.statements j ≡ slice_get y.statements j
 
-  same_block : x.block ≡ y.block
-  same_block = is_x.block ∙ sym is_y.block
-
   -- and so one instruction
-  one_place : (j : ℕ) (s : Statement) → slice_get rule.source j ≡ Some s → Agree j → (m : StatementMatches f rule x j s) → (n : StatementMatches f rule y j s) → m.place ≡ n.place
-  one_place j s at agree m n =
-      same_place x.block y.block m.place n.place (same_Some (registers.Result x.block m.place) (registers.Result y.block n.place) (sym m.bound ∙ agree ∙ n.bound))
+  one_there : (j : ℕ) (s : Statement) → slice_get rule.source j ≡ Some s → Agree j → (m : StatementMatches f rule x j s) → (n : StatementMatches f rule y j s) → (m.block ≡ n.block) × (m.place ≡ n.place)
+  one_there j s at agree m n =
+      let one : registers.Result m.block m.place ≡ registers.Result n.block n.place = same_Some (registers.Result m.block m.place) (registers.Result n.block n.place) (sym m.bound ∙ agree ∙ n.bound) in
+      (same_block m.block n.block m.place n.place one, same_place m.block n.block m.place n.place one)
 
   one_inst : (j : ℕ) (s : Statement) → slice_get rule.source j ≡ Some s → Agree j → (m : StatementMatches f rule x j s) → (n : StatementMatches f rule y j s) → m.inst ≡ n.inst
   one_inst j s at agree m n =
-      same_inst f y.block n.place m.inst n.inst
-      (subst (λ (k : ℕ). IsInst f y.block k m.inst) (one_place j s at agree m n) (subst (λ (d : ℕ). IsInst f d m.place m.inst) same_block m.is_inst)) n.is_inst
+      let (block, place) = one_there j s at agree m n in
+      same_inst f n.block n.place m.inst n.inst
+      (subst (λ (k : ℕ). IsInst f n.block k m.inst) place (subst (λ (d : ℕ). IsInst f d m.place m.inst) block m.is_inst)) n.is_inst
 
   -- an operand of the source matches the same operand of an instruction under both bindings
   record BothRead (o : RuleOperand) : Type 0 where
@@ -68,10 +67,10 @@ module _ (known : Knowledge) (f : Function) (b p : ℕ) (rule : Rule) (is_rule :
   both_read o stands agree =
       let m = is_x.statements stands.j stands.s stands.statement in
       let n = is_y.statements stands.j stands.s stands.statement in
-      let place : m.place ≡ n.place = one_place stands.j stands.s stands.statement agree m n in
+      let (block, place) = one_there stands.j stands.s stands.statement agree m n in
       let met_x = met_at f rule x stands.j stands.s m stands.i o stands.operand in
       let met_y = met_at f rule y stands.j stands.s n stands.i o stands.operand in
-      let moved : IsRead f y.block n.place stands.i met_x.read = subst (λ (k : ℕ). IsRead f y.block k stands.i met_x.read) place (subst (λ (d : ℕ). IsRead f d m.place stands.i met_x.read) same_block met_x.is_read) in
+      let moved : IsRead f n.block n.place stands.i met_x.read = subst (λ (k : ℕ). IsRead f n.block k stands.i met_x.read) place (subst (λ (d : ℕ). IsRead f d m.place stands.i met_x.read) block met_x.is_read) in
       let one : met_y.read ≡ met_x.read = same_Some met_y.read met_x.read (sym met_y.is_read ∙ moved) in
       record { read = met_x.read; in_x = met_x.matches; in_y = subst (λ (r : Read). OperandMatches y o r) one met_y.matches }
 
@@ -142,7 +141,7 @@ module _ (known : Knowledge) (f : Function) (b p : ℕ) (rule : Rule) (is_rule :
       is ∙ sym at
 
   pub one_binding : HasNoFault rule → x ≡ y
-  one_binding no_fault = same_binding x y same_block (is_x.place ∙ sym is_y.place)
+  one_binding no_fault = same_binding x y (is_x.block ∙ sym is_y.block) (is_x.place ∙ sym is_y.place)
       (same_list x.statements y.statements (is_x.statement_count ∙ sym is_y.statement_count) (λ j lt. all_agree j (omega (arith, is_x.statement_count))))
       (same_list x.inputs y.inputs (is_x.input_count ∙ sym is_y.input_count) (λ i lt.
       let (q, (o, at, read)) = is_rule.inputs_read i (omega (arith, is_x.input_count)) in on_input i o read (read_of o (source_operand rule q o at))))
@@ -150,10 +149,9 @@ module _ (known : Knowledge) (f : Function) (b p : ℕ) (rule : Rule) (is_rule :
       let (q, (o, at, read)) = is_rule.constants_read k (omega (arith, is_x.constant_count)) in on_constant k o read (read_of o (source_operand rule q o at))))
       (same_list x.typing y.typing same_count (on_class no_fault))
 
--- without regard to the order of instructions
-pub one_in_any_order : {known : Knowledge} (f : Function) (b k : ℕ) (rule : Rule) (x y : Binding) → IsRule rule → HasNoFault rule → MatchesInAnyOrder known f b k rule x → MatchesInAnyOrder known f b k rule y → x ≡ y
-one_in_any_order {known = known} f b k rule x y is_rule no_fault is_x is_y = one_binding known f b k rule is_rule x y is_x is_y no_fault
+-- whatever is asked of the order of instructions
+pub one_in_any_order : {Before : ℕ → ℕ → ℕ → ℕ → Type 0} {known : Knowledge} (f : Function) (b k : ℕ) (rule : Rule) (x y : Binding) → IsRule rule → HasNoFault rule → MatchesWhere Before known f b k rule x → MatchesWhere Before known f b k rule y → x ≡ y
+one_in_any_order {Before = Before} {known = known} f b k rule x y is_rule no_fault is_x is_y = one_binding Before known f b k rule is_rule x y is_x is_y no_fault
 
 pub matches_have_one_binding : MatchesHaveOneBinding
-matches_have_one_binding f b k rule x y is_rule no_fault is_x is_y =
-    one_in_any_order f b k rule x y is_rule no_fault (in_any_order f b k rule x is_x) (in_any_order f b k rule y is_y)
+matches_have_one_binding across f b k rule x y is_rule no_fault is_x is_y = one_in_any_order f b k rule x y is_rule no_fault is_x is_y

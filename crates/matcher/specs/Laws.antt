@@ -1,5 +1,5 @@
 -- Laws of matches.
-use Rattle.std.specs.Prelude.{◌≡◌, ℕ}
+use Rattle.std.specs.Prelude.{◌≡◌, ℕ, Bool}
 use Rattle.ir_core.specs.declared.function.Function.{Function}
 use Rattle.rule_core.specs.Checks.{IsRule}
 use Rattle.rule_core.specs.declared.rule.Rule.{Rule}
@@ -7,7 +7,7 @@ use Rattle.rule_typing.specs.Faults.{HasNoFault}
 use Rattle.bindings.specs.Match.{IsMatch}
 use Rattle.bindings.specs.declared.binding.Binding.{Binding}
 
--- a rule that was read from a file matches at an instruction with one binding at most
+-- a rule that was read from a file matches at an instruction with one binding at most, across blocks, too
 abbrev pub MatchesHaveOneBinding : Type 0
 MatchesHaveOneBinding =
-    (f : Function) (b k : ℕ) (rule : Rule) (x y : Binding) → IsRule rule → HasNoFault rule → IsMatch f b k rule x → IsMatch f b k rule y → x ≡ y
+    (across : Bool) (f : Function) (b k : ℕ) (rule : Rule) (x y : Binding) → IsRule rule → HasNoFault rule → IsMatch across f b k rule x → IsMatch across f b k rule y → x ≡ y

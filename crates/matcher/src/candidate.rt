@@ -1,6 +1,6 @@
 //! The one binding that a match can have.
 
-ghost use Rattle.std.specs.Prelude.{◌≡◌, ◌<◌, ◌^◌, length, All, IfOk, IfSome, Some};
+ghost use Rattle.std.specs.Prelude.{◌≡◌, ◌<◌, ◌^◌, Bool, length, All, IfOk, IfSome, Some};
 ghost use Rattle.rule_core.specs.Checks.{IsRule};
 ghost use Rattle.rule_typing.specs.Classes.{IsClassified};
 ghost use Rattle.rule_typing.specs.Faults.{HasNoFault};
@@ -15,7 +15,8 @@ use rule_core::Rule;
 use std::alloc::{AllocError, Global};
 
 /// The one binding with which the rule can match at an instruction. It is read off from the root down: a later
-/// statement reads the result of each other one, so what that is bound to is known when its turn comes.
+/// statement reads the result of each other one, so what that is bound to is known when its turn comes, in whatever
+/// block it stands.
 pub(crate) fn candidate(
     alloc: Global,
     f: &Function,
@@ -28,7 +29,7 @@ pub(crate) fn candidate(
     requires classes { IsClassified rule.now }
     requires typed { HasNoFault rule.now }
     ensures forced { IfOk result (λ found.
-        (known : Knowledge) (m : Binding) → MatchesInAnyOrder known f.now block place rule.now m → found ≡ Some m) }
+        (across : Bool) (known : Knowledge) (m : Binding) → MatchesInAnyOrder across known f.now block place rule.now m → found ≡ Some m) }
     ensures place { IfOk result (λ found. IfSome found (λ binding. (binding.block ≡ block) × (binding.place ≡ place))) }
 {
     let mut slots = Slots::new(alloc, rule, Register::Result(block, place))?;

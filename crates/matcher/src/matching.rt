@@ -20,7 +20,9 @@ use known_bits::{Facts, facts_before};
 use rule_core::Rule;
 use std::alloc::{AllocError, Global};
 
-/// The binding with which a rule matches at an instruction of a function, or `None` where it doesn't match there.
+/// The binding with which a rule matches at an instruction of a function, or `None` where it doesn't match there. Its
+/// temporaries stand in the instruction's block or, with `across`, in whatever blocks, where they are assigned at it.
+///
 /// Where the instruction is the same operation as the rule's root, all blocks are searched for reached ones and for
 /// uses of registers, and the bits of the results before it are found: [`match_in`] takes these as arguments. Elsewhere
 /// it takes no memory.
@@ -30,6 +32,7 @@ pub fn match_at(
     block: u32,
     place: u32,
     rule: &Rule,
+    across: bool,
 ) -> Result<Option<Binding>, AllocError>
     requires checks { MeetsChecks f.now }
     // Blocks, and the instructions of each, are counted in 32 bits.
@@ -41,8 +44,8 @@ pub fn match_at(
     requires rule { IsRule rule.now }
     requires classes { IsClassified rule.now }
     requires typed { HasNoFault rule.now }
-    ensures ok { IfOk result (λ found. IfSome found (IsMatch f.now block place rule.now)) }
-    ensures none { IfOk result (λ found. IfNone found ((binding : Binding) → ¬ IsMatch f.now block place rule.now binding)) }
+    ensures ok { IfOk result (λ found. IfSome found (IsMatch across f.now block place rule.now)) }
+    ensures none { IfOk result (λ found. IfNone found ((binding : Binding) → ¬ IsMatch across f.now block place rule.now binding)) }
 {
     temporaries_stand_before_roots();
     if !is_root_operation(f, block, place, rule) {
@@ -50,15 +53,14 @@ pub fn match_at(
     }
     let facts = FunctionFacts::of(alloc, f)?;
     let known = facts_before(alloc, f, block, place)?;
-    match_in(alloc, f, &facts, &known, block, place, rule)
+    match_in(alloc, f, &facts, &known, block, place, rule, across)
 }
 
 /// The same, with the facts of the whole function and what is known of the results of the block as arguments, and
-/// without regard to the order of instructions in the block.
+/// without regard to the order of instructions.
 ///
 /// It takes as many steps as the rule has operands and nodes, for each of its classes; and no memory where the block
 /// isn't reached, or the instruction isn't the same operation as the rule's root.
-#[tactic(auto, using(crate::proofs::Rooted::matched_operation))]
 pub fn match_in(
     alloc: Global,
     f: &Function,
@@ -67,6 +69,7 @@ pub fn match_in(
     block: u32,
     place: u32,
     rule: &Rule,
+    across: bool,
 ) -> Result<Option<Binding>, AllocError>
     requires insts { All (λ b. length b.insts < 2 ^ 32) f.now.blocks }
     requires facts { AreFactsOf f.now facts.now }
@@ -75,9 +78,9 @@ pub fn match_in(
     requires rule { IsRule rule.now }
     requires classes { IsClassified rule.now }
     requires typed { HasNoFault rule.now }
-    ensures ok { IfOk result (λ found. IfSome found (MatchesInAnyOrder (known_by known.now) f.now block place rule.now)) }
+    ensures ok { IfOk result (λ found. IfSome found (MatchesInAnyOrder across (known_by known.now) f.now block place rule.now)) }
     ensures none { IfOk result (λ found. IfNone found ((binding : Binding)
-        → ¬ MatchesInAnyOrder (known_by known.now) f.now block place rule.now binding)) }
+        → ¬ MatchesInAnyOrder across (known_by known.now) f.now block place rule.now binding)) }
 {
     if !facts.flow.reached(block) || !is_root_operation(f, block, place, rule) {
         return Ok(None);
@@ -85,7 +88,7 @@ pub fn match_in(
     let Some(binding) = candidate(alloc, f, block, place, rule)? else {
         return Ok(None);
     };
-    if is_match(f, facts, known, rule, &binding) {
+    if is_match(f, facts, known, rule, &binding, across) {
         Ok(Some(binding))
     } else {
         Ok(None)

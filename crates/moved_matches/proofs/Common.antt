@@ -3,7 +3,7 @@ pub use Rattle.std.proofs.Common.{Contains, List, None, Option, Some, [], ap, ar
 pub use Rattle.bindings.proofs.Knowing.{KnowsAsMuch, facts_follow}
 pub use Rattle.bindings.proofs.Reading.{reads_at_inst, same_inst}
 pub use Rattle.bindings.specs.Known.{Knowledge, operand_for}
-pub use Rattle.bindings.specs.Match.{MatchesWhere}
+pub use Rattle.bindings.specs.Match.{IsAvailable, IsInScope, MatchesWhere}
 pub use Rattle.bindings.specs.Operands.{OperandMatches, StandsFor}
 pub use Rattle.bindings.specs.Promises.{AreKept}
 pub use Rattle.bindings.specs.Statements.{IsSameOperation, StatementMatches, promises_of_inst, promises_of_statement}
@@ -16,7 +16,6 @@ pub use Rattle.ir_core.specs.declared.instruction.Op.{Op}
 pub use Rattle.ir_core.specs.declared.operand.Operand.{Operand}
 pub use Rattle.ir_core.specs.declared.operand.Register.{Register}
 pub use Rattle.ir_meaning.proofs.Pieces.{contains_at}
-pub use Rattle.moved_matches.specs.Laws.{InAnyOrder, InOrder, MatchesStay}
 pub use Rattle.moved_matches.specs.Moved.{StandsAt, StandsThere, moved_binding, register_or}
 pub use Rattle.rule_core.specs.declared.rule.Argument.{Argument}
 pub use Rattle.rule_core.specs.declared.rule.Register.{Register as Name}

@@ -1,5 +1,5 @@
 -- A match stays where what it depends on does.
-use Rattle.moved_matches.proofs.Common.{◌≡◌, ℕ, zero, suc, ◌<◌, List, [], ◌∷◌, length, map, Option, None, Some, option_map, none-some, refl, sym, ap, subst, ◌∙◌, arith, Contains, slice_get, length-map, same_Some, slice_get_within, IsInst, Read, IsRead, reads_of, Function, Inst, Op, Operand, Register, contains_at, Argument, Rule, Statement, from_map, get_from_map, get-map, Substitution, IsDefinite, substituted_operand, substituted_op, substituted_inst, IsUsedOnce, KnowsAsMuch, facts_follow, Name, Knowledge, operand_for, MatchesWhere, OperandMatches, StandsFor, AreKept, IsSameOperation, StatementMatches, promises_of_inst, promises_of_statement, Binding, reads_at_inst, same_inst, StandsAt, StandsThere, moved_binding, register_or, MatchesStay}
+use Rattle.moved_matches.proofs.Common.{◌≡◌, ℕ, zero, suc, ◌<◌, List, [], ◌∷◌, length, map, Option, None, Some, option_map, none-some, refl, sym, ap, subst, ◌∙◌, arith, Contains, slice_get, length-map, same_Some, slice_get_within, IsInst, Read, IsRead, reads_of, Function, Inst, Op, Operand, Register, contains_at, Argument, Rule, Statement, from_map, get_from_map, get-map, Substitution, IsDefinite, substituted_operand, substituted_op, substituted_inst, IsUsedOnce, KnowsAsMuch, facts_follow, Name, Knowledge, operand_for, MatchesWhere, OperandMatches, StandsFor, AreKept, IsSameOperation, StatementMatches, promises_of_inst, promises_of_statement, Binding, reads_at_inst, same_inst, StandsAt, StandsThere, moved_binding, register_or}
 use Rattle.ir_core.specs.declared.instruction.Op.TheVariants as ops
 use Rattle.ir_core.specs.declared.operand.Operand.TheVariants as operands
 use Rattle.ir_core.specs.declared.operand.Register.TheVariants as registers
@@ -69,13 +69,13 @@ some_at [] k within = absurd (omega arith)
 some_at (a ∷ xs) zero within = (a, refl)
 some_at (a ∷ xs) (suc k) within = some_at xs k (omega arith)
 
-module _ (Before Before' : ℕ → ℕ → Type 0) (known known' : Knowledge) (f f' : Function) (to : Substitution) (rule : Rule) (m : Binding) (k : ℕ) (definite : IsDefinite to) (is : MatchesWhere Before known f m.block m.place rule m)
+module _ (Before Before' : ℕ → ℕ → ℕ → ℕ → Type 0) (known known' : Knowledge) (f f' : Function) (to : Substitution) (rule : Rule) (m : Binding) (k : ℕ) (definite : IsDefinite to) (is : MatchesWhere Before known f m.block m.place rule m)
     (there : StandsThere Before Before' known known' f f' to rule m k) where
   -- the instruction of a statement in the other function
-  bound_then : (j p q : ℕ) → slice_get m.statements j ≡ Some (registers.Result m.block p) → StandsAt f f' to m.block p q
-      → slice_get (map (λ r. register_or r (to r)) m.statements) j ≡ Some (registers.Result m.block q)
-  bound_then j p q at stands =
-      get-map (λ r. register_or r (to r)) m.statements j (registers.Result m.block p) at ∙ ap (λ (a : Operand). Some (register_or (registers.Result m.block p) a)) stands.register
+  bound_then : (j d p q : ℕ) → slice_get m.statements j ≡ Some (registers.Result d p) → StandsAt f f' to d p q
+      → slice_get (map (λ r. register_or r (to r)) m.statements) j ≡ Some (registers.Result d q)
+  bound_then j d p q at stands =
+      get-map (λ r. register_or r (to r)) m.statements j (registers.Result d p) at ∙ ap (λ (a : Operand). Some (register_or (registers.Result d p) a)) stands.register
 
   -- under the moved binding a name stands for the substituted operand
   stands_for_then : (N : ℕ) (value : Argument) (a : Operand) → StandsFor m N value a → StandsFor (moved_binding to k m) N value (substituted_operand to a)
@@ -83,10 +83,10 @@ module _ (Before Before' : ℕ → ℕ → Type 0) (known known' : Knowledge) (f
   stands_for_then N (arguments.Register (names.Source j)) a (r, at, reads) =
       let (s, is_statement) = some_at rule.source j (let within : j < length m.statements = slice_get_within m.statements j r at in omega (arith, within, is.statement_count)) in
       let bound = is.statements j s is_statement in
-      let same : r ≡ registers.Result m.block bound.place = same_Some r (registers.Result m.block bound.place) (sym at ∙ bound.bound) in
-      let (q, stands, before) = there.bound j bound.place bound.bound in (
-        registers.Result m.block q,
-        bound_then j bound.place q bound.bound stands,
+      let same : r ≡ registers.Result bound.block bound.place = same_Some r (registers.Result bound.block bound.place) (sym at ∙ bound.bound) in
+      let (q, stands, before) = there.bound j bound.block bound.place bound.bound in (
+        registers.Result bound.block q,
+        bound_then j bound.block bound.place q bound.bound stands,
         ap (substituted_operand to) reads ∙ ap to same ∙ stands.register,
       )
   stands_for_then N (arguments.Register (names.Target j)) a h = absurd h
@@ -107,54 +107,58 @@ module _ (Before Before' : ℕ → ℕ → Type 0) (known known' : Knowledge) (f
   statement_then : (j : ℕ) (s : Statement) → slice_get rule.source j ≡ Some s → StatementMatches f' rule (moved_binding to k m) j s
   statement_then j s at =
       let h = is.statements j s at in
-      let (q, stands, before) = there.bound j h.place h.bound in
-      let same : stands.inst ≡ h.inst = same_inst f m.block h.place stands.inst h.inst stands.was h.is_inst in
-      let is_inst : IsInst f' m.block q (substituted_inst to h.inst) = subst (λ (i : Inst). IsInst f' m.block q (substituted_inst to i)) same stands.is in
+      let (q, stands, before) = there.bound j h.block h.place h.bound in
+      let same : stands.inst ≡ h.inst = same_inst f h.block h.place stands.inst h.inst stands.was h.is_inst in
+      let is_inst : IsInst f' h.block q (substituted_inst to h.inst) = subst (λ (i : Inst). IsInst f' h.block q (substituted_inst to i)) same stands.is in
       let flags : promises_of_inst h.inst.op ≡ promises_of_inst (substituted_op to h.inst.op) = same_promises to h.inst.op in
       record {
+        block = h.block;
         place = q;
         inst = substituted_inst to h.inst;
-        bound = bound_then j h.place q h.bound stands;
+        bound = bound_then j h.block h.place q h.bound stands;
         is_inst = is_inst;
         matches = record {
-          root = λ last. root_then j h.place q (h.matches.root last) stands;
+          root = λ last. root_then h.block h.place q (h.matches.root last) stands;
           operation = same_operation to s.op h.inst.op h.matches.operation;
           flags = subst (AreKept (promises_of_statement s.op)) flags h.matches.flags;
           no_more_flags = λ earlier reads. sym flags ∙ h.matches.no_more_flags earlier reads;
           width = h.matches.width;
           operands = λ i o r at_i is_read.
-              let now : slice_get (reads_of f' m.block q h.inst.width (substituted_op to h.inst.op)) i ≡ Some r = ap (λ (l : List Read). slice_get l i) (sym (reads_at_inst f' m.block q (substituted_inst to h.inst) is_inst)) ∙ is_read in
-              let was = was_read f f' to m.block h.place q h.inst.width s.op h.inst.op i r h.matches.operation now in
-              let was_there : IsRead f m.block h.place i was.old = ap (λ (l : List Read). slice_get l i) (reads_at_inst f m.block h.place h.inst h.is_inst) ∙ was.is_read in
+              let now : slice_get (reads_of f' h.block q h.inst.width (substituted_op to h.inst.op)) i ≡ Some r = ap (λ (l : List Read). slice_get l i) (sym (reads_at_inst f' h.block q (substituted_inst to h.inst) is_inst)) ∙ is_read in
+              let was = was_read f f' to h.block h.place q h.inst.width s.op h.inst.op i r h.matches.operation now in
+              let was_there : IsRead f h.block h.place i was.old = ap (λ (l : List Read). slice_get l i) (reads_at_inst f h.block h.place h.inst h.is_inst) ∙ was.is_read in
               operand_then o was.old r was.width was.operand (h.matches.operands i o was.old at_i was_there);
         };
       }
     where
-      root_then : (j p q : ℕ) → p ≡ m.place → StandsAt f f' to m.block p q → q ≡ k
-      root_then j p q root stands =
-          let both : operands.Register (registers.Result m.block q) ≡ operands.Register (registers.Result m.block k) = sym stands.register ∙ ap (λ (n : ℕ). to (registers.Result m.block n)) root ∙ there.root in
-          cc
+      root_then : (d p q : ℕ) → (d ≡ m.block) × (p ≡ m.place) → StandsAt f f' to d p q → (d ≡ m.block) × (q ≡ k)
+      root_then d p q root stands =
+          let both : operands.Register (registers.Result d q) ≡ operands.Register (registers.Result m.block k) =
+          sym stands.register ∙ ap (λ (n : ℕ). to (registers.Result d n)) root.1 ∙ ap (λ (c : ℕ). to (registers.Result c m.place)) root.0 ∙ there.root in
+          let place : q ≡ k = cc in
+          (root.0, place)
 
   one_use_then : (j : ℕ) (r : Register) → Contains rule.precondition (formulas.HasOneUse j) → slice_get (map (λ x. register_or x (to x)) m.statements) j ≡ Some r → IsUsedOnce f' r
   one_use_then j r asked at =
       let (old, was, now) = get_from_map (λ x. register_or x (to x)) m.statements j r at in
       let (s, is_statement) = some_at rule.source j (let within : j < length m.statements = slice_get_within m.statements j old was in omega (arith, within, is.statement_count)) in
       let bound = is.statements j s is_statement in
-      let same : old ≡ registers.Result m.block bound.place = same_Some old (registers.Result m.block bound.place) (sym was ∙ bound.bound) in
-      let (q, stands, before) = there.bound j bound.place bound.bound in
-      let names_it : to old ≡ operands.Register (registers.Result m.block q) = ap to same ∙ stands.register in
-      let is_that : registers.Result m.block q ≡ r = sym (ap (register_or old) names_it) ∙ now in
+      let same : old ≡ registers.Result bound.block bound.place = same_Some old (registers.Result bound.block bound.place) (sym was ∙ bound.bound) in
+      let (q, stands, before) = there.bound j bound.block bound.place bound.bound in
+      let names_it : to old ≡ operands.Register (registers.Result bound.block q) = ap to same ∙ stands.register in
+      let is_that : registers.Result bound.block q ≡ r = sym (ap (register_or old) names_it) ∙ now in
       there.uses old r (contains_at m.statements j old was) (names_it ∙ ap operands.Register is_that) (is.one_use j old asked was)
 
-  -- temporaries stand before the root
-  before_then : (j p : ℕ) → suc j < length rule.source → slice_get (map (λ r. register_or r (to r)) m.statements) j ≡ Some (registers.Result m.block p) → Before' p k
-  before_then j p less at =
+  -- temporaries are related to the root
+  before_then : (j e p : ℕ) → suc j < length rule.source → slice_get (map (λ r. register_or r (to r)) m.statements) j ≡ Some (registers.Result e p) → Before' e p m.block k
+  before_then j e p less at =
       let (s, is_statement) = some_at rule.source j (omega (arith, less)) in
       let h = is.statements j s is_statement in
-      let (q, stands, before) = there.bound j h.place h.bound in
-      let same : registers.Result m.block q ≡ registers.Result m.block p = same_Some (registers.Result m.block q) (registers.Result m.block p) (sym (bound_then j h.place q h.bound stands) ∙ at) in
+      let (q, stands, before) = there.bound j h.block h.place h.bound in
+      let same : registers.Result h.block q ≡ registers.Result e p = same_Some (registers.Result h.block q) (registers.Result e p) (sym (bound_then j h.block h.place q h.bound stands) ∙ at) in
+      let block : h.block ≡ e = cc in
       let place : q ≡ p = cc in
-      subst (λ (n : ℕ). Before' n k) place (before (is.before j h.place less h.bound))
+      subst (λ (d : ℕ). Before' d p m.block k) block (subst (λ (n : ℕ). Before' h.block n m.block k) place (before (is.before j h.block h.place less h.bound)))
 
   -- what a register stands for is there, and the same is known of it
   gives_then : (r : Name) (y : Operand) → operand_for (moved_binding to k m) r ≡ Some y → (x : Operand) × (operand_for m r ≡ Some x) × (y ≡ substituted_operand to x)
@@ -168,10 +172,10 @@ module _ (Before Before' : ℕ → ℕ → Type 0) (known known' : Knowledge) (f
           let (old, was, now) = get_from_map (λ x. register_or x (to x)) m.statements j new is_o in
           let (s, is_statement) = some_at rule.source j (let within : j < length m.statements = slice_get_within m.statements j old was in omega (arith, within, is.statement_count)) in
           let bound = is.statements j s is_statement in
-          let same : old ≡ registers.Result m.block bound.place = same_Some old (registers.Result m.block bound.place) (sym was ∙ bound.bound) in
-          let (q, stands, before) = there.bound j bound.place bound.bound in
-          let names_it : to old ≡ operands.Register (registers.Result m.block q) = ap to same ∙ stands.register in
-          let is_that : registers.Result m.block q ≡ new = sym (ap (register_or old) names_it) ∙ now in (
+          let same : old ≡ registers.Result bound.block bound.place = same_Some old (registers.Result bound.block bound.place) (sym was ∙ bound.bound) in
+          let (q, stands, before) = there.bound j bound.block bound.place bound.bound in
+          let names_it : to old ≡ operands.Register (registers.Result bound.block q) = ap to same ∙ stands.register in
+          let is_that : registers.Result bound.block q ≡ new = sym (ap (register_or old) names_it) ∙ now in (
             operands.Register old,
             ap (option_map operands.Register) was,
             sym (same_Some (operands.Register new) y h) ∙ sym (ap operands.Register is_that) ∙ sym names_it,
@@ -202,5 +206,6 @@ module _ (Before Before' : ℕ → ℕ → Type 0) (known known' : Knowledge) (f
     facts = λ formula among. facts_follow rule (known m.block m.place) (known' m.block k) m (moved_binding to k m) (λ a. refl) as_much_then formula among (is.facts formula among);
   }
 
-pub matches_stay : (Before Before' : ℕ → ℕ → Type 0) → MatchesStay Before Before'
+pub matches_stay : (Before Before' : ℕ → ℕ → ℕ → ℕ → Type 0) (known known' : Knowledge) (f f' : Function) (to : Substitution) (rule : Rule) (m : Binding) (k : ℕ)
+    → IsDefinite to → MatchesWhere Before known f m.block m.place rule m → StandsThere Before Before' known known' f f' to rule m k → MatchesWhere Before' known' f' m.block k rule (moved_binding to k m)
 matches_stay Before Before' known known' f f' to rule m k definite is there = match_then Before Before' known known' f f' to rule m k definite is there

@@ -33,12 +33,13 @@ pub record StandsAt (f f' : Function) (to : Substitution) (b p q : ℕ) : Type 0
   pub register : to (registers.Result b p) ≡ operands.Register (registers.Result b q)
 
 -- What a match depends on is in the other function, with its root at place k of its block: the block is reached, the
--- instructions of its statements are there, temporaries are related to the root if they were, a register with exactly
--- one use has exactly one, and the same is known of what its registers stand for of whose bits the rule says something.
-pub record StandsThere (Before Before' : ℕ → ℕ → Type 0) (known known' : Knowledge) (f f' : Function) (to : Substitution) (rule : Rule) (m : Binding) (k : ℕ) : Type 0 where
+-- instructions of its statements are there in their blocks, temporaries are related to the root if they were, a
+-- register with exactly one use has exactly one, and the same is known of what its registers stand for of whose bits
+-- the rule says something.
+pub record StandsThere (Before Before' : ℕ → ℕ → ℕ → ℕ → Type 0) (known known' : Knowledge) (f f' : Function) (to : Substitution) (rule : Rule) (m : Binding) (k : ℕ) : Type 0 where
   pub reached : IsReached f m.block → IsReached f' m.block
   pub root : to (registers.Result m.block m.place) ≡ operands.Register (registers.Result m.block k)
-  pub bound : (j p : ℕ) → slice_get m.statements j ≡ Some (registers.Result m.block p)
-      → (q : ℕ) × StandsAt f f' to m.block p q × (Before p m.place → Before' q k)
+  pub bound : (j d p : ℕ) → slice_get m.statements j ≡ Some (registers.Result d p)
+      → (q : ℕ) × StandsAt f f' to d p q × (Before d p m.block m.place → Before' d q m.block k)
   pub uses : (r s : Register) → Contains m.statements r → to r ≡ operands.Register s → IsUsedOnce f r → IsUsedOnce f' s
   pub bits : (r : Name) (x : Operand) → AsksBitsOf rule r → operand_for m r ≡ Some x → known m.block m.place x ≡ known' m.block k (substituted_operand to x)

@@ -21,7 +21,7 @@ cases_stay to (terminators.Switch a width other cases) h = h
 cases_stay to terminators.Unreachable h = h
 
 pub rewritten_have_forms : RewrittenFunctionsHaveForms
-rewritten_have_forms f new b k rule binding checked meets forms match applied =
+rewritten_have_forms across f new b k rule binding checked meets forms match applied =
     let root : Inst = applied.root in
     let w : Rewrite = rewrite_of rule binding root.name in
     let old_numbers : NumbersFit f = numbers_fit f forms in

@@ -21,9 +21,9 @@ use Rattle.ir_text.specs.Forms.{FunctionHasForms, ModuleHasForms}
 
 -- Rewriting by a rule at a match keeps these forms.
 abbrev pub RewrittenFunctionsHaveForms : Type 0
-RewrittenFunctionsHaveForms = (f new : Function) (b k : ℕ) (rule : Rule) (binding : Binding)
+RewrittenFunctionsHaveForms = (across : Bool) (f new : Function) (b k : ℕ) (rule : Rule) (binding : Binding)
     → IsRule rule → MeetsChecks f → FunctionHasForms f
-    → IsMatch f b k rule binding → IsRewritten f binding rule new → FunctionHasForms new
+    → IsMatch across f b k rule binding → IsRewritten f binding rule new → FunctionHasForms new
 
 -- Folding keeps these forms.
 abbrev pub FoldedFunctionsHaveForms : Type 0
@@ -31,9 +31,9 @@ FoldedFunctionsHaveForms = (f new : Function) → FunctionHasForms f → IsFolde
 
 -- The strategy keeps these forms.
 abbrev pub OptimisedModulesHaveForms : Type 0
-OptimisedModulesHaveForms = (fold : Bool) (rules : List Rule) (steps : ℕ) (table : List Row) (old new : Module) (counts : List ℕ) (limited : List Bool)
+OptimisedModulesHaveForms = (fold across : Bool) (rules : List Rule) (steps : ℕ) (table : List Row) (old new : Module) (counts : List ℕ) (limited : List Bool)
     → AreReady rules → ModuleMeetsChecks old → ModuleHasForms old
-    → IsPlainStrategy fold rules steps table old new counts limited → ModuleHasForms new
+    → IsPlainStrategy fold across rules steps table old new counts limited → ModuleHasForms new
 
 -- In a module with these forms literals are numbers of their widths.
 abbrev pub FormedModulesNumbersFit : Type 0

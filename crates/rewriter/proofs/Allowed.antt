@@ -1,10 +1,11 @@
 -- Each run through the inserted instructions is allowed by an effect of the root, where the rule is valid.
-use Rattle.rewriter.proofs.Common.{◌≡◌, ℕ, suc, ◌+◌, ◌-◌, ◌<◌, ◌≤◌, inl, inr, List, [], ◌∷◌, length, map, take, Option, Some, refl, sym, ap, subst, ◌∙◌, arith, slice_get, Contains, range_with_len, option_map, cases_eq, cases_lt, length-map, take_all, same_Some, slice_get-map, slice_get-get_or, Number, AllowsValue, AllowsEffect, IsValueOf, Value, Effect, AllowsEffect-trans, IsAssigned, HasInst, IsInst, MeetsChecks, Read, reads_of, Registers, AnyNumber, OperandGives, OpGives, IsWalk, IsReached, Function, Inst, Register, some_at, contains_at, IsRule, Choice, choices_among, LeavesOpen, Held, Given, Ending, Undefines, Holds, given_by, at_start, temporaries_of, holding_source, holding_target, StatementGives, ArgumentGives, Follows, TemporariesEnd, SourceGives, TargetGives, GivesLast, KeepsFacts, Setting, SettingFits, SourceChoicesFit, witness_number, HaveEffects, IsValid, Rule, Statement, HeldFits, GivenFits, ChoiceIsReady, ArgumentIsReady, source_given, Contains-from_get, source_ready, follows_once, temporaries_fit, temporaries_same, choices_fit, EquationHolds, not_both_assigned, one_inst, has_inst, NumbersFit, PutIsAllowed, AllowsPut, MayHold, stands_for, RunsThrough, Rewrite, value_of, pulled_back, inst_reads, IsTheRoot, stands_root, stands_other, moved_unmoved, is_moved, IsMatch, StatementMatches, Binding, rewrite_of}
+use Rattle.rewriter.proofs.Common.{◌≡◌, ℕ, suc, ◌+◌, ◌-◌, ◌<◌, inl, inr, List, [], ◌∷◌, length, map, take, Option, Some, refl, sym, ap, subst, ◌∙◌, arith, slice_get, Contains, range_with_len, option_map, cases_eq, length-map, take_all, same_Some, slice_get-map, slice_get-get_or, slice_get_within, assignment_transitive, before_in_block, named_assigned, Number, AllowsValue, AllowsEffect, IsValueOf, Value, Effect, AllowsEffect-trans, IsAssigned, HasInst, IsInst, MeetsChecks, Read, reads_of, Registers, AnyNumber, OperandGives, OpGives, IsWalk, IsReached, Function, Inst, Register, some_at, contains_at, IsRule, Choice, choices_among, LeavesOpen, Held, Given, Ending, Undefines, Holds, given_by, at_start, temporaries_of, holding_source, holding_target, StatementGives, ArgumentGives, Follows, TemporariesEnd, SourceGives, TargetGives, GivesLast, KeepsFacts, Setting, SettingFits, SourceChoicesFit, witness_number, HaveEffects, IsValid, Rule, Statement, HeldFits, GivenFits, ChoiceIsReady, ArgumentIsReady, source_given, Contains-from_get, source_ready, follows_once, temporaries_fit, temporaries_same, choices_fit, EquationHolds, not_both_assigned, one_inst, has_inst, NumbersFit, PutIsAllowed, AllowsPut, MayHold, stands_for, RunsThrough, Rewrite, value_of, pulled_back, inst_reads, IsTheRoot, stands_root, stands_other, moved_unmoved, is_moved, MatchesWhere, known_in, StatementMatches, Binding, rewrite_of}
 use Rattle.ops.specs.declared.value.Value.TheVariants as values
 use Rattle.ops.specs.declared.value.Effect.TheVariants as effects
 use Rattle.ir_core.specs.declared.operand.Operand.{Operand}
 use Rattle.ir_core.specs.declared.operand.Operand.TheVariants as operands
 use Rattle.ir_core.specs.declared.operand.Register.TheVariants as registers
+use Rattle.rule_core.specs.declared.rule.Register.TheVariants as names
 use Rattle.rule_core.specs.declared.rule.Op.TheVariants as rule_ops
 use Rattle.rule_core.specs.declared.rule.Operand.{Operand as RuleOperand}
 use Rattle.rule_core.specs.Readiness.{OpIsReady, StatementIsReady}
@@ -16,17 +17,11 @@ use Rattle.rewriter.proofs.Picks.{places, in_order}
 use Rattle.rewriter.proofs.Putting.{IsSettled, results, results_length}
 use Rattle.rewriter.proofs.Root.{root_allows}
 use Rattle.rewriter.proofs.Said.{facts_held}
-use Rattle.rewriter.proofs.Setting.{SourceRead, input_read, setting_fits, terms_fit}
+use Rattle.rewriter.proofs.Setting.{setting_fits, terms_fit}
 use Rattle.rewriter.proofs.Source.{input_value, input_values, input_is, Standing, temporaries_stand}
 use Rattle.rewriter.proofs.Target.{GivesOnly, Ready, Done, Ends, target_runs}
 
--- a register that is assigned at a place is assigned behind it in the block
-pub assigned_later : (f : Function) (r : Register) (b j k : ℕ) → j ≤ k → IsAssigned f r b j → IsAssigned f r b k
-assigned_later f (registers.Parameter p) b j k le a = a
-assigned_later f (registers.Result d i) b j k le a =
-    (a.0, λ before walk. elim (a.1 before walk) [ inl has ↦ inl has | inr here ↦ let lt : i < j = here.1 in inr (here.0, omega arith) ])
-
-module _ (f : Function) (b k : ℕ) (rule : Rule) (binding : Binding) (checked : IsRule rule) (meets : MeetsChecks f) (numbers : NumbersFit f) (match : IsMatch f b k rule binding)
+module _ {Before : ℕ → ℕ → ℕ → ℕ → Type 0} (f : Function) (b k : ℕ) (rule : Rule) (binding : Binding) (checked : IsRule rule) (meets : MeetsChecks f) (numbers : NumbersFit f) (match : MatchesWhere Before (known_in f) f b k rule binding)
     (root : Inst) (root_is : IsInst f binding.block binding.place root) where
   abbrev pub w : Rewrite
   w = rewrite_of rule binding root.name
@@ -36,18 +31,7 @@ module _ (f : Function) (b k : ℕ) (rule : Rule) (binding : Binding) (checked :
 
   -- a result that is assigned at an instruction of its block is of an instruction before that one
   pub stands_before : (p q : ℕ) → HasInst f binding.block q → IsAssigned f (registers.Result binding.block p) binding.block q → p < q
-  stands_before p q has a =
-      elim (cases_lt p q) [
-        | inl lt ↦ lt
-        | inr le ↦ elim (cases_eq p q) [
-          | inl same ↦
-              let own : IsAssigned f (registers.Result binding.block q) binding.block q = subst (λ n. IsAssigned f (registers.Result binding.block n) binding.block q) same a in
-              absurd (not_both_assigned f binding.block q binding.block q reached own own)
-          | inr ne ↦
-              let lt : q < p = omega arith in
-              absurd (not_both_assigned f binding.block q binding.block p reached (has, λ before walk. inr (refl, lt)) a)
-        ]
-      ]
+  stands_before p q has a = before_in_block not_both_assigned f binding.block p q reached has a
 
   pub root_has : HasInst f binding.block binding.place
   root_has = has_inst f binding.block binding.place root root_is
@@ -56,11 +40,8 @@ module _ (f : Function) (b k : ℕ) (rule : Rule) (binding : Binding) (checked :
 
   pub input_assigned : (i : ℕ) (reg : Register) → slice_get binding.inputs i ≡ Some (operands.Register reg) → IsAssigned f reg binding.block binding.place
   input_assigned i reg at =
-      let r = input_read f b k rule binding checked meets numbers match i (operands.Register reg) at in
-      let s : SourceRead f binding r.0 = r.1 in
-      let a : IsAssigned f reg s.read.block s.read.place = meets.assigned binding.block s.place s.index s.read s.is_read reg r.4 in
-      let there : IsAssigned f reg binding.block s.place = subst (λ n. IsAssigned f reg binding.block n) s.place_is (subst (λ n. IsAssigned f reg n s.read.place) s.block_is a) in
-      assigned_later f reg binding.block s.place binding.place s.le there
+      let count : length binding.inputs ≡ length rule.inputs = match.input_count in
+      named_assigned assignment_transitive f b k rule binding meets checked match (names.Input i) reg (omega (arith, slice_get_within binding.inputs i (operands.Register reg) at)) at
 
   pub inputs_settled : (i : ℕ) (a : Operand) → slice_get binding.inputs i ≡ Some a → IsSettled rule binding 0 a
   inputs_settled i a at p is =
@@ -71,21 +52,19 @@ module _ (f : Function) (b k : ℕ) (rule : Rule) (binding : Binding) (checked :
   statement_at : (j : ℕ) → j < length rule.source → (s : Statement) × (slice_get rule.source j ≡ Some s)
   statement_at j lt = some_at rule.source j lt
 
-  pub statements_settled : (j : ℕ) (reg : Register) → suc j < length rule.source → slice_get binding.statements j ≡ Some reg → (p : ℕ) × (reg ≡ registers.Result binding.block p) × (p < binding.place) × IsAssigned f reg binding.block binding.place
-  statements_settled j reg lt at =
-      let s = statement_at j (omega arith) in
-      let m : StatementMatches f rule binding j s.0 = match.statements j s.0 s.1 in
-      let is : reg ≡ registers.Result binding.block m.place = same_Some reg (registers.Result binding.block m.place) (sym at ∙ m.bound) in
-      let before : m.place < binding.place = match.before j m.place lt m.bound in
-      let own : IsAssigned f (registers.Result binding.block m.place) binding.block binding.place = (has_inst f binding.block m.place m.inst m.is_inst, λ passed walk. inr (refl, before)) in
-      (m.place, is, before, subst (λ r. IsAssigned f r binding.block binding.place) (sym is) own)
+  pub temporary_assigned : (j : ℕ) (reg : Register) → suc j < length rule.source → slice_get binding.statements j ≡ Some reg → IsAssigned f reg binding.block binding.place
+  temporary_assigned j reg lt at = named_assigned assignment_transitive f b k rule binding meets checked match (names.Source j) reg lt (ap (option_map operands.Register) at)
 
   settled_temporary : (j : ℕ) (reg : Register) → suc j < length rule.source → slice_get binding.statements j ≡ Some reg → IsSettled rule binding 0 (operands.Register reg)
   settled_temporary j reg lt at p is =
-      let t = statements_settled j reg lt at in
-      let less : t.0 < binding.place = t.2 in
-      let same : t.0 ≡ p = let own : reg ≡ registers.Result binding.block t.0 = t.1 in cc in
+      let same : reg ≡ registers.Result binding.block p = cc in
+      let assigned : IsAssigned f (registers.Result binding.block p) binding.block binding.place = subst (λ r. IsAssigned f r binding.block binding.place) same (temporary_assigned j reg lt at) in
+      let less : p < binding.place = stands_before p binding.place root_has assigned in
       omega arith
+
+  -- a temporary of the root's block stands before the root
+  temporary_before : (j p : ℕ) → suc j < length rule.source → slice_get binding.statements j ≡ Some (registers.Result binding.block p) → p < binding.place
+  temporary_before j p lt at = stands_before p binding.place root_has (temporary_assigned j (registers.Result binding.block p) lt at)
 
   -- a register that is assigned at the root isn't renamed
   pub stands_itself : (reg : Register) → IsAssigned f reg binding.block binding.place → stands_for w reg ≡ operands.Register reg
@@ -112,14 +91,15 @@ module _ (f : Function) (b k : ℕ) (rule : Rule) (binding : Binding) (checked :
     abbrev held : Registers
     held = pulled_back (stands_for w) held'
 
-    equations : (p : ℕ) (inst : Inst) → p < binding.place → IsInst f binding.block p inst → IsComputed inst.op → EquationHolds held binding.block p inst
-    equations p inst lt is computed = may.equations binding.block p inst is (computed_no_phi inst.op computed) (has_inst f binding.block p inst is, λ passed walk. inr (refl, lt))
+    -- the equation of each temporary holds at the root, in whatever block it stands
+    equations : (j d p : ℕ) (inst : Inst) → suc j < length rule.source → slice_get binding.statements j ≡ Some (registers.Result d p) → IsInst f d p inst → IsComputed inst.op → EquationHolds held d p inst
+    equations j d p inst lt at is computed = may.equations d p inst is (computed_no_phi inst.op computed) (temporary_assigned j (registers.Result d p) lt at)
 
     abbrev inputs : List Value
     inputs = input_values held binding
 
     temporaries : (end : Held) × TemporariesEnd typing binding.constants rule inputs (Holds end) × Standing f rule binding held (length rule.source - 1) end
-    temporaries = temporaries_stand f rule binding held checked match.typing match.no_undef match.statements match.before equations
+    temporaries = temporaries_stand f rule binding held checked match.typing match.no_undef match.statements equations
 
     H : Held
     H = temporaries.0
@@ -150,8 +130,7 @@ module _ (f : Function) (b k : ℕ) (rule : Rule) (binding : Binding) (checked :
           inputs = λ i a at. (input_value held a, ap (λ (vs : List Value). slice_get vs i) standing.inputs ∙ (slice_get-map (input_value held) binding.inputs i ∙ ap (option_map (input_value held)) at), input_only i a at);
           source = λ reads j reg lt at.
               let old = standing.each j reg (omega arith) at in
-              let t = statements_settled j reg lt at in
-              let stays : GivesOnly held' old.1 (operands.Register reg) = λ width v' gives. same_Some v' old.0 (sym (held_there reg v' t.3 gives) ∙ old.2) ∙ old.4.1 reads in
+              let stays : GivesOnly held' old.1 (operands.Register reg) = λ width v' gives. same_Some v' old.0 (sym (held_there reg v' (temporary_assigned j reg lt at) gives) ∙ old.2) ∙ old.4.1 reads in
               (old.1, old.3, stays);
           target = λ j a lt. absurd (omega arith);
           count = ap length standing.none;
@@ -185,7 +164,7 @@ module _ (f : Function) (b k : ℕ) (rule : Rule) (binding : Binding) (checked :
     -- the source's temporaries keep what the rule says of bits
     facts_kept : KeepsFacts rule typing binding.constants inputs
     facts_kept then runs =
-        facts_held f b k rule binding checked meets numbers match held may.widths
+        facts_held f b k rule binding checked meets numbers match temporary_before held may.widths
         (λ p inst lt is other. may.equations binding.block p inst is other (has_inst f binding.block p inst is, λ passed walk. inr (refl, lt)))
         then (temporaries_fit rule typing checked match.typing binding.constants setting_fit.constants inputs setting_fit.inputs then runs) runs
 
@@ -197,18 +176,18 @@ module _ (f : Function) (b k : ℕ) (rule : Rule) (binding : Binding) (checked :
     m : StatementMatches f rule binding (length rule.source - 1) last.0
     m = match.statements (length rule.source - 1) last.0 last.1
 
-    m_place : m.place ≡ binding.place
-    m_place = m.matches.root (let some = checked.source_root in omega arith)
+    m_root : (m.block ≡ binding.block) × (m.place ≡ binding.place)
+    m_root = m.matches.root (let some = checked.source_root in omega arith)
 
     m_inst : m.inst ≡ root
-    m_inst = one_inst f binding.block binding.place m.inst root (subst (λ n. IsInst f binding.block n m.inst) m_place m.is_inst) root_is
+    m_inst = one_inst f binding.block binding.place m.inst root (subst (λ n. IsInst f binding.block n m.inst) m_root.1 (subst (λ d. IsInst f d m.place m.inst) m_root.0 m.is_inst)) root_is
 
-    root_holds : (n : ℕ) (r : Read) (reg : Register) → slice_get (reads_of f binding.block m.place m.inst.width m.inst.op) n ≡ Some r → r.operand ≡ operands.Register reg → (v : Value) × (held reg ≡ Some v)
+    root_holds : (n : ℕ) (r : Read) (reg : Register) → slice_get (reads_of f m.block m.place m.inst.width m.inst.op) n ≡ Some r → r.operand ≡ operands.Register reg → (v : Value) × (held reg ≡ Some v)
     root_holds n r reg at is =
-        let there = ap (λ (l : List Read). slice_get l n) (inst_reads f binding.block m.place m.inst m.is_inst) ∙ at in
-        let a : IsAssigned f reg r.block r.place = meets.assigned binding.block m.place n r there reg is in
-        let here = reads_here f binding.block m.place m.inst.width m.inst.op (same_is_computed last.0.op m.inst.op m.matches.operation) n r at in
-        may.assigned reg (subst (λ p. IsAssigned f reg binding.block p) (here.1 ∙ m_place) (subst (λ c. IsAssigned f reg c r.place) here.0 a))
+        let there = ap (λ (l : List Read). slice_get l n) (inst_reads f m.block m.place m.inst m.is_inst) ∙ at in
+        let a : IsAssigned f reg r.block r.place = meets.assigned m.block m.place n r there reg is in
+        let here = reads_here f m.block m.place m.inst.width m.inst.op (same_is_computed last.0.op m.inst.op m.matches.operation) n r at in
+        may.assigned reg (subst (λ p. IsAssigned f reg binding.block p) (here.1 ∙ m_root.1) (subst (λ c. IsAssigned f reg c r.place) (here.0 ∙ m_root.0) a))
 
     abbrev given : Given
     given = given_by typing binding.constants choices rule

@@ -1,11 +1,13 @@
 -- What the proofs of this crate cite of definitions, of other crates and of the libraries, passed on from one place.
 pub use Rattle.std.proofs.Common.{Bool, Contains, Err, List, None, Ok, OnOk, Option, Result, Some, IsTrue, [], add-one, add-zero, ap, append-nil, append_assoc, arith, bit_and, bit_or, bit_xor, cond, drop, eq-eqb, false, flat_map, get_or, if◌then◌else◌, inl, inr, length, length-append, length-take, map, nat_le, ne_eqb, not, option_to_list, refl, slice_get, slice_index, slice_index_or, subst, suc, sym, take, true, zero, zero-add, ℕ, ℤ, ◌&&◌, ◌++◌, ◌+◌, ◌-◌, ◌<◌, ◌==◌, ◌^◌, ◌||◌, ◌∙◌, ◌∷◌, ◌≡◌, ◌≢◌, ◌≤◌, ◌⊎◌}
+pub use Rattle.bindings.proofs.Before.{before_in_block}
 pub use Rattle.bindings.proofs.Knowing.{asked_before_root}
-pub use Rattle.bindings.specs.Known.{FactFollows, number_of_term, operand_for}
-pub use Rattle.bindings.specs.Match.{IsMatch}
+pub use Rattle.bindings.proofs.TemporariesBefore.{named_assigned}
+pub use Rattle.bindings.specs.Known.{FactFollows, Knowledge, known_in, number_of_term, operand_for}
+pub use Rattle.bindings.specs.Match.{MatchesWhere}
 pub use Rattle.bindings.specs.Operands.{OperandMatches, StandsFor}
 pub use Rattle.bindings.specs.Promises.{AreKept}
-pub use Rattle.bindings.specs.Statements.{IsSameOperation, NamesTemporary, StatementMatches, TargetNamesTemporary, promises_of_inst, promises_of_statement}
+pub use Rattle.bindings.specs.Statements.{InstMatches, IsSameOperation, NamesTemporary, StatementMatches, TargetNamesTemporary, promises_of_inst, promises_of_statement}
 pub use Rattle.bindings.specs.declared.binding.Binding.{Binding}
 pub use Rattle.bindings.specs.declared.promises.Promises.{Promises}
 pub use Rattle.ir_core.specs.Assigned.{IsAssigned}
@@ -21,12 +23,12 @@ pub use Rattle.ir_core.specs.declared.function.Function.{Function}
 pub use Rattle.ir_core.specs.declared.instruction.Inst.{Inst}
 pub use Rattle.ir_core.specs.declared.instruction.Op.TheVariants.{Phi}
 pub use Rattle.ir_core.specs.declared.operand.Register.{Register}
-pub use Rattle.ir_meaning.proofs.Assignments.{not_both_assigned}
+pub use Rattle.ir_meaning.proofs.Assignments.{assignment_transitive, not_both_assigned}
 pub use Rattle.ir_meaning.proofs.Equations.{one_inst}
 pub use Rattle.ir_meaning.proofs.Following.{width_known}
 pub use Rattle.ir_meaning.proofs.Pieces.{contains_at, place_in, some_at}
 pub use Rattle.ir_meaning.proofs.Steps.{has_inst, held_elsewhere, held_here}
-pub use Rattle.ir_meaning.specs.HistoryLaws.{EquationHolds, NumbersFit}
+pub use Rattle.ir_meaning.specs.HistoryLaws.{EquationHolds, EquationsHoldWhereAssigned, NumbersFit}
 pub use Rattle.ir_meaning.specs.Laws.{HoldWidths}
 pub use Rattle.circuits.specs.declared.known_bit.KnownBit.{KnownBit}
 pub use Rattle.known_bits.proofs.BlockResults.{operand_width}
@@ -38,7 +40,7 @@ pub use Rattle.known_bits.proofs.Results.{binary_has, cast_has, choice_has}
 pub use Rattle.known_bits.proofs.Values.{has_nothing}
 pub use Rattle.known_bits.specs.KnownBits.{insts_of, known_at, known_result, known_results}
 pub use Rattle.known_bits.specs.Laws.{HasBits}
-pub use Rattle.known_bits.specs.Words.{known_of}
+pub use Rattle.known_bits.specs.Words.{known_of, unknown}
 pub use Rattle.known_bits.specs.declared.words.Known.{Known}
 pub use Rattle.ops.proofs.Monotone.{comparison-monotone, conversion-monotone, instruction-monotone, selection-monotone, unary-monotone}
 pub use Rattle.ops.proofs.Values.{AllowsEffect-refl, AllowsEffect-trans, AllowsValue-refl}
@@ -68,7 +70,7 @@ pub use Rattle.ops.specs.declared.value.Effect.{Effect}
 pub use Rattle.ops.specs.declared.value.Effect.TheVariants.{Gives, Undefined}
 pub use Rattle.ops.specs.declared.value.Value.{Value}
 pub use Rattle.ops.specs.declared.value.Value.TheVariants.{Bits, Poison}
-pub use Rattle.rewriter.specs.Laws.{RewrittenFunctionsMeetChecks, RewrittenFunctionsRefine, RewrittenNumbersFit}
+pub use Rattle.rewriter.specs.Laws.{EquationsOfStatementsHold, RewrittenFunctionsMeetChecks, RewrittenFunctionsRefine, RewrittenNumbersFit}
 pub use Rattle.rewriter.specs.Put.{argument_put, class_width, count_put, insts_of_op, insts_put, insts_with, is_copy, literal_of, operand_put, result_of_op, result_put, results_put, rewrite_of}
 pub use Rattle.rewriter.specs.Ready.{IsBound, OperandIsReady, op_put}
 pub use Rattle.rule_core.proofs.Facts.{each_said}

@@ -1,5 +1,5 @@
 -- Statements that become instructions, counted and in order.
-use Rattle.rewriter.proofs.Common.{◌≡◌, ℕ, ◌+◌, ◌-◌, ◌<◌, ◌≤◌, Bool, true, false, not, List, [], ◌∷◌, ◌++◌, length, length-append, take, None, Some, refl, sym, ap, ◌∙◌, arith, get_or, flat_map, append_assoc, append-nil, slice_get, flat_map-append, take_more, take_all, count_by_more_yes, count_by_more_no, slice_get-get_or, Name, Inst, in_turn, Rule, Statement, in_turn-step, in_turn-length, Binding, is_copy, count_put, result_put, results_put, insts_with, insts_put}
+use Rattle.rewriter.proofs.Common.{◌≡◌, ℕ, ◌+◌, ◌<◌, ◌≤◌, Bool, true, false, not, List, [], ◌∷◌, ◌++◌, length, length-append, take, None, Some, refl, sym, ap, ◌∙◌, arith, get_or, flat_map, append_assoc, append-nil, slice_get, flat_map-append, take_more, take_all, count_by_more_yes, count_by_more_no, slice_get-get_or, Name, Inst, in_turn, Rule, Statement, in_turn-step, in_turn-length, Binding, is_copy, count_put, result_put, results_put, insts_with, insts_put}
 use Rattle.ir_core.specs.declared.operand.Operand.{Operand}
 
 module _ (rule : Rule) (binding : Binding) where

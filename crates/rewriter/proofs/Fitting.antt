@@ -1,5 +1,5 @@
 -- The instructions that a rule inserts in the place of its root fit the function.
-use Rattle.rewriter.proofs.Common.{◌≡◌, ◌≢◌, ℕ, zero, suc, ◌+◌, ◌-◌, ◌<◌, ◌≤◌, ◌^◌, inl, inr, Bool, true, false, List, [], ◌∷◌, length, map, Option, Some, None, refl, sym, ap, subst, ◌∙◌, arith, get_or, slice_get, slice_index_or, Contains, if◌then◌else◌, option_map_or, cases_lt, same_Some, slice_get-map, slice_get-get_or, slice_get_within, get_or_from_slice_get, CastFits, residue, Number, IsValueOf, Flags, Cast, Value, IsAssigned, IsInst, IsPhi, IsTyped, MeetsChecks, OperandHasWidth, width_of, Read, reads_of, Function, Inst, Register, some_at, IsRule, TargetMayRead, FlagsFitOp, ReadsNoUndefAlone, operands_of, IsStatementOf, IsOperandAmong, name, reads, reads_constant, source_assigns, target_assigns, assigns_root, operand, copy, truth, truncated, zero_extended, sign_extended, constant_values, value_at, HasNumber, Argument, Rule, Statement, Term, residue_lt, Contains-from_get, Contains-flat_map, target_statement, target_operand, source_operand, class_stands, operand_class_stands, constant_values_fit, one_inst, NumbersFit, Fits, IsOfItsWidth, IsOld, MayBeRead, Rewrite, mapped, width_at, IsMatch, StatementMatches, Binding, literal_of, is_copy, argument_put, class_width, operand_put, insts_put, rewrite_of}
+use Rattle.rewriter.proofs.Common.{◌≡◌, ◌≢◌, ℕ, zero, suc, ◌+◌, ◌-◌, ◌<◌, ◌≤◌, ◌^◌, inl, inr, Bool, true, false, List, [], ◌∷◌, length, map, Option, Some, None, refl, sym, ap, subst, ◌∙◌, arith, get_or, slice_get, slice_index_or, Contains, if◌then◌else◌, option_map_or, cases_lt, same_Some, slice_get-map, slice_get-get_or, slice_get_within, get_or_from_slice_get, CastFits, residue, Number, IsValueOf, Flags, Cast, Value, IsAssigned, IsInst, IsPhi, IsTyped, MeetsChecks, OperandHasWidth, width_of, Read, reads_of, Function, Inst, Register, some_at, IsRule, TargetMayRead, FlagsFitOp, ReadsNoUndefAlone, operands_of, IsStatementOf, IsOperandAmong, name, reads, reads_constant, source_assigns, target_assigns, assigns_root, operand, copy, truth, truncated, zero_extended, sign_extended, constant_values, value_at, HasNumber, Argument, Rule, Statement, Term, residue_lt, Contains-from_get, Contains-flat_map, target_statement, target_operand, source_operand, class_stands, operand_class_stands, constant_values_fit, one_inst, NumbersFit, Fits, IsOfItsWidth, IsOld, MayBeRead, Rewrite, mapped, width_at, MatchesWhere, known_in, StatementMatches, Binding, literal_of, is_copy, argument_put, class_width, operand_put, insts_put, rewrite_of}
 use Rattle.ops.specs.declared.conversion.Cast.TheVariants as casts
 use Rattle.ops.specs.declared.value.Value.TheVariants as values
 use Rattle.ir_core.specs.declared.operand.Operand.{Operand}
@@ -14,7 +14,7 @@ use Rattle.rule_core.specs.declared.rule.Op.TheVariants as rule_ops
 use Rattle.rule_core.specs.declared.rule.Operand.{Operand as RuleOperand}
 use Rattle.rule_core.specs.declared.rule.Register.TheVariants as names
 use Rattle.rule_core.proofs.Ready.{class_width as width_of_class}
-use Rattle.rewriter.proofs.Allowed.{reached, input_assigned, statements_settled, stands_itself}
+use Rattle.rewriter.proofs.Allowed.{reached, input_assigned, temporary_assigned, stands_itself}
 use Rattle.rewriter.proofs.Matched.{computed_no_phi, same_is_computed}
 use Rattle.rewriter.proofs.Putting.{IsNoCopy, results, results_length, put_before, result_at, result_put_at, result_is, count_more, count_grows, put_op, put_inst, ReadFor, put_reads, put_is_computed}
 use Rattle.rewriter.proofs.Setting.{SourceRead, number_own, input_read, constants_fit}
@@ -31,7 +31,7 @@ truth_fits : (b : Bool) (N : ℕ) → N ≡ 1 → (if b then 1 else 0) < 2 ^ N
 truth_fits true N one = rw one (omega arith)
 truth_fits false N one = rw one (omega arith)
 
-module _ (f : Function) (b k : ℕ) (rule : Rule) (binding : Binding) (checked : IsRule rule) (meets : MeetsChecks f) (numbers : NumbersFit f) (match : IsMatch f b k rule binding)
+module _ {Before : ℕ → ℕ → ℕ → ℕ → Type 0} (f : Function) (b k : ℕ) (rule : Rule) (binding : Binding) (checked : IsRule rule) (meets : MeetsChecks f) (numbers : NumbersFit f) (match : MatchesWhere Before (known_in f) f b k rule binding)
     (root : Inst) (root_is : IsInst f binding.block binding.place root) where
   abbrev put : Rewrite
   put = rewrite_of rule binding root.name
@@ -79,8 +79,8 @@ module _ (f : Function) (b k : ℕ) (rule : Rule) (binding : Binding) (checked :
         let x : SourceRead f binding r.0 = r.1 in
         let same = match.typing.same r.0.class o.class (name {n = rule_names.Register (names.Input i)} (reads (source_operand rule r.0 r.2) r.3) (reads (target_operand rule o target_among) is)) in
         let w_is : x.read.width ≡ width = same_Some x.read.width width (sym x.matches.width ∙ same ∙ class) in
-        let has : OperandHasWidth f width a = subst (λ n. OperandHasWidth f n a) w_is (subst (λ y. OperandHasWidth f x.read.width y) r.4 (meets.formed.operands binding.block x.place x.index x.read x.is_read)) in
-        let own : IsOfItsWidth a = subst (λ y. IsOfItsWidth y) r.4 (number_own x.read.operand (λ n. numbers binding.block x.place x.index x.read n x.is_read)) in
+        let has : OperandHasWidth f width a = subst (λ n. OperandHasWidth f n a) w_is (subst (λ y. OperandHasWidth f x.read.width y) r.4 (meets.formed.operands x.block x.place x.index x.read x.is_read)) in
+        let own : IsOfItsWidth a = subst (λ y. IsOfItsWidth y) r.4 (number_own x.read.operand (λ n. numbers x.block x.place x.index x.read n x.is_read)) in
         inl (old_operand width a has own (λ reg e. input_assigned f b k rule binding checked meets numbers match root root_is i reg (there ∙ ap (λ (y : Operand). Some y) e)))
     argument_may (arguments.Register (names.Source j)) is may =
         let none : Register = registers.Parameter 0 in
@@ -91,10 +91,9 @@ module _ (f : Function) (b k : ℕ) (rule : Rule) (binding : Binding) (checked :
         let m : StatementMatches f rule binding j x.0 = match.statements j x.0 x.1 in
         let same = match.typing.same x.0.class o.class (name {n = rule_names.Register (names.Source j)} (source_assigns x.1) (reads (target_operand rule o target_among) is)) in
         let w_is : m.inst.width ≡ width = same_Some m.inst.width width (sym m.matches.width ∙ same ∙ class) in
-        let reg_is : registers.Result binding.block m.place ≡ reg = same_Some (registers.Result binding.block m.place) reg (sym m.bound ∙ there) in
-        let has : width_of f reg ≡ Some width = subst (λ r. width_of f r ≡ Some width) reg_is (width_at f binding.block m.place m.inst m.is_inst ∙ ap (λ n. Some n) w_is) in
-        let a = statements_settled f b k rule binding checked meets numbers match root root_is j reg may there in
-        inl (subst (λ y. IsOld f put width (option_map_or operands.Register y operands.Poison)) (sym there) (old_register width reg has a.3))
+        let reg_is : registers.Result m.block m.place ≡ reg = same_Some (registers.Result m.block m.place) reg (sym m.bound ∙ there) in
+        let has : width_of f reg ≡ Some width = subst (λ r. width_of f r ≡ Some width) reg_is (width_at f m.block m.place m.inst m.is_inst ∙ ap (λ n. Some n) w_is) in
+        inl (subst (λ y. IsOld f put width (option_map_or operands.Register y operands.Poison)) (sym there) (old_register width reg has (temporary_assigned f b k rule binding checked meets numbers match root root_is j reg may there)))
     argument_may (arguments.Register (names.Target j)) is may =
         let within : t < length rule.target = slice_get_within rule.target t s at in
         let x = some_at rule.target j (omega arith) in
@@ -249,8 +248,8 @@ module _ (f : Function) (b k : ℕ) (rule : Rule) (binding : Binding) (checked :
 
   root_inst : root_match.inst ≡ root
   root_inst =
-      let place : root_match.place ≡ binding.place = root_match.matches.root (let some = checked.source_root in omega arith) in
-      one_inst f binding.block binding.place root_match.inst root (subst (λ n. IsInst f binding.block n root_match.inst) place root_match.is_inst) root_is
+      let (block, place) : (root_match.block ≡ binding.block) × (root_match.place ≡ binding.place) = root_match.matches.root (let some = checked.source_root in omega arith) in
+      one_inst f binding.block binding.place root_match.inst root (subst (λ n. IsInst f binding.block n root_match.inst) place (subst (λ d. IsInst f d root_match.place root_match.inst) block root_match.is_inst)) root_is
 
   root_no_phi : ¬ IsPhi root.op
   root_no_phi = subst (λ (i : Inst). ¬ IsPhi i.op) root_inst (computed_no_phi root_match.inst.op (same_is_computed last_source.0.op root_match.inst.op root_match.matches.operation))

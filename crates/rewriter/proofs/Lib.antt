@@ -14,6 +14,7 @@ pub mod Frozen
 pub mod Allowed
 pub mod Placed
 pub mod Fitting
+pub mod Equations
 pub mod Rewriting
 pub mod TargetReads
 pub mod Readying

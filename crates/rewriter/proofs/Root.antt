@@ -79,11 +79,11 @@ module _ (f : Function) (rule : Rule) (binding : Binding) (held : Registers) (no
   root_argument N (arguments.Term n) x for may one holds chosen = absurd for
 
   module _ (checked : IsRule rule) (typed : IsTyping rule binding.typing) (s : Statement) (at : slice_get rule.source j ≡ Some s) (m : StatementMatches f rule binding j s)
-      (holds : (n : ℕ) (r : Read) (reg : Register) → slice_get (reads_of f binding.block m.place m.inst.width m.inst.op) n ≡ Some r → r.operand ≡ operands.Register reg → (v : Value) × (held reg ≡ Some v))
+      (holds : (n : ℕ) (r : Read) (reg : Register) → slice_get (reads_of f m.block m.place m.inst.width m.inst.op) n ≡ Some r → r.operand ≡ operands.Register reg → (v : Value) × (held reg ≡ Some v))
       (chosen : (k c N : ℕ) → LeavesOpen rule.source k c → slice_get binding.typing c ≡ Some N → ChoiceIsReady given N k)
       (frozen_fits : (a : RuleOperand) (k N : ℕ) (u : Value) → s.op ≡ rule_ops.Freeze a k → slice_get binding.typing a.class ≡ Some N → ArgumentGives binding.typing given H N a.value u → IsValueOf N u) where
     abbrev RootReads : List Read
-    RootReads = reads_of f binding.block m.place m.inst.width m.inst.op
+    RootReads = reads_of f m.block m.place m.inst.width m.inst.op
 
     -- the effect of the root's statement, and one of the instruction that allows it
     abbrev RootAllows : Type 0
@@ -100,24 +100,24 @@ module _ (f : Function) (rule : Rule) (binding : Binding) (held : Registers) (no
     plain_allows : ¬ IsFreeze s.op → RootAllows
     plain_allows none =
         let plain : inputs_of s.class s.op ≡ operands_of s.op = plain_inputs s.class s.op none in
-        let taken = plain_reads f binding.block m.place m.inst.width s.op m.inst.op m.matches.operation none in
+        let taken = plain_reads f m.block m.place m.inst.width s.op m.inst.op m.matches.operation none in
         let is : IsComputed m.inst.op = is_computed f rule binding held checked typed j s at m in
         let one : (n : ℕ) (r : Read) → slice_get RootReads n ≡ Some r → (x : Value) × (OperandGives AnyNumber held r.width r.operand x × ((o : RuleOperand) → slice_get (operands_of s.op) n ≡ Some o → (u : Value) × (RuleOperandGives binding.typing given H o u × AllowsValue x u))) = λ n r there.
-        let o = operand_there f binding.block m.place m.inst.width s.op m.inst.op m.matches.operation n r there in
+        let o = operand_there f m.block m.place m.inst.width s.op m.inst.op m.matches.operation n r there in
         let matches : OperandMatches binding o.0 r = operand_matches f rule binding held checked typed j s at m n o.0 r o.1 there in
         let g = read_gives n o.0 r o.1 there in
         (g.0, (g.1, λ p here. (g.2.0, (subst (λ q. RuleOperandGives binding.typing given H q g.2.0) (same_Some o.0 p (sym o.1 ∙ here)) (r.width, matches.width, g.2.1), g.2.2)))) in
         let x = collected (λ n r v. OperandGives AnyNumber held r.width r.operand v × ((o : RuleOperand) → slice_get (operands_of s.op) n ≡ Some o → (u : Value) × (RuleOperandGives binding.typing given H o u × AllowsValue v u))) RootReads one in
         let u = collected (λ n o v. RuleOperandGives binding.typing given H o v × AllowsValue (x.0 n) v) (operands_of s.op)
-        (λ n o here. let r = read_there f binding.block m.place m.inst.width s.op m.inst.op m.matches.operation n o here in (x.1 n r.0 r.1).1 o here) in
+        (λ n o here. let r = read_there f m.block m.place m.inst.width s.op m.inst.op m.matches.operation n o here in (x.1 n r.0 r.1).1 o here) in
         let source : Effect = effect_of (computed binding.typing m.inst.width s.op) u.0 in
         let own : Effect = effect_of (computed binding.typing m.inst.width s.op) x.0 in
         let e : Effect = effect_of (computed_by m.inst.width m.inst.op) x.0 in
-        let by_flags : AllowsEffect e own = inst_allows binding.typing f binding.block m.place m.inst.width s.op m.inst.op m.matches.operation m.matches.flags (widths_agree f rule binding held checked typed j s at m) x.0 in
+        let by_flags : AllowsEffect e own = inst_allows binding.typing f m.block m.place m.inst.width s.op m.inst.op m.matches.operation m.matches.flags (widths_agree f rule binding held checked typed j s at m) x.0 in
         let by_values : AllowsEffect own source = effects_allow binding.typing m.inst.width s.op x.0 u.0 none (λ n o here. (u.1 n o here).1) in (
           source,
           (m.inst.width, m.matches.width, rule_gives binding.typing given H s.class m.inst.width m.matches.width s.op u.0 (λ n o here. (u.1 n o (ap (λ (l : List RuleOperand). slice_get l n) (sym plain) ∙ here)).0)),
-          (e, op_gives f binding.block m.place held m.inst.width m.inst.op x.0 is (λ n r there. (x.1 n r (ap (λ (l : List Read). slice_get l n) (sym taken) ∙ there)).0), AllowsEffect-trans e own source by_flags by_values),
+          (e, op_gives f m.block m.place held m.inst.width m.inst.op x.0 is (λ n r there. (x.1 n r (ap (λ (l : List Read). slice_get l n) (sym taken) ∙ there)).0), AllowsEffect-trans e own source by_flags by_values),
         )
 
     -- in the place of poison a freeze may give what its operand gives in the rule, or else the number that is chosen
@@ -126,9 +126,9 @@ module _ (f : Function) (rule : Rule) (binding : Binding) (held : Registers) (no
     freeze_allows a k is =
         let w : ℕ = m.inst.width in
         let x = frozen_inst s.op m.inst.op a k is m.matches.operation in
-        let r : Read = read binding.block m.place w x.0 in
+        let r : Read = read m.block m.place w x.0 in
         let here : slice_get (operands_of s.op) 0 ≡ Some a = ap (λ (op : RuleOp). slice_get (operands_of op) 0) is in
-        let there : slice_get RootReads 0 ≡ Some r = ap (λ (op : Op). slice_get (reads_of f binding.block m.place w op) 0) x.1 in
+        let there : slice_get RootReads 0 ≡ Some r = ap (λ (op : Op). slice_get (reads_of f m.block m.place w op) 0) x.1 in
         let class : slice_get binding.typing a.class ≡ Some w = widths_agree f rule binding held checked typed j s at m 0 a r here there in
         let g = read_gives 0 a r here there in
         let left_open : LeavesOpen rule.source k s.class = statement_open rule.source s (record { place = k; class = s.class }) (Contains-from_get rule.source j s at) (freeze_chosen s a k is) in

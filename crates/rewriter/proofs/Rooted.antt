@@ -1,5 +1,5 @@
 -- What follows from a match for a rewrite: the root is there, all names are bound, and few instructions are inserted.
-use Rattle.rewriter.proofs.Common.{◌≡◌, ℕ, ◌-◌, ◌≤◌, List, [], ◌∷◌, length, length-append, Some, None, Result, Ok, Err, subst, arith, slice_get, OnOk, slice_get_within, HasInst, IsInst, Name, Function, Inst, some_at, IsRule, Copy, Rule, Statement, IsMatch, StatementMatches, Binding, class_width, insts_of_op, insts_with, insts_put, IsBound}
+use Rattle.rewriter.proofs.Common.{◌≡◌, ℕ, ◌-◌, ◌≤◌, List, [], ◌∷◌, length, length-append, Some, None, Result, Ok, Err, subst, arith, slice_get, OnOk, slice_get_within, HasInst, IsInst, Name, Function, Inst, some_at, IsRule, Copy, Rule, Statement, Knowledge, MatchesWhere, StatementMatches, Binding, class_width, insts_of_op, insts_with, insts_put, IsBound}
 use Rattle.rule_core.specs.declared.rule.Op.{Op as RuleOp}
 use Rattle.rule_core.specs.declared.rule.Op.TheVariants.{Binary, Compare, Unary, Select, Convert, Freeze}
 use Rattle.bindings.proofs.Fitting.{constants_fit}
@@ -9,7 +9,7 @@ pub on_ok : {T E P Q : Type 0} (r : Result T E) → (P → Q) → OnOk r P → O
 on_ok (Ok x) follows h = follows h
 on_ok (Err e) follows h = h
 
-module _ (f : Function) (rule : Rule) (binding : Binding) (is_rule : IsRule rule) (m : IsMatch f binding.block binding.place rule binding) where
+module _ {Before : ℕ → ℕ → ℕ → ℕ → Type 0} {known : Knowledge} (f : Function) (rule : Rule) (binding : Binding) (is_rule : IsRule rule) (m : MatchesWhere Before known f binding.block binding.place rule binding) where
   pub is_bound : IsBound rule binding
   is_bound = record {
     statements = m.statement_count;
@@ -25,8 +25,8 @@ module _ (f : Function) (rule : Rule) (binding : Binding) (is_rule : IsRule rule
       let last : ℕ = length rule.source - 1 in
       let s : (s : Statement) × (slice_get rule.source last ≡ Some s) = some_at rule.source last (omega arith) in
       let bound : StatementMatches f rule binding last s.0 = m.statements last s.0 s.1 in
-      let place : bound.place ≡ binding.place = bound.matches.root (omega arith) in
-      (bound.inst, subst (λ k. IsInst f binding.block k bound.inst) place bound.is_inst)
+      let root = bound.matches.root (omega arith) in
+      (bound.inst, subst (λ k. IsInst f binding.block k bound.inst) root.1 (subst (λ d. IsInst f d bound.place bound.inst) root.0 bound.is_inst))
 
   pub has_root : HasInst f binding.block binding.place
   has_root = let root : IsInst f binding.block binding.place root_there.0 = root_there.1 in (root.block, root.is_block, slice_get_within root.block.insts binding.place root_there.0 root.is_inst)

@@ -1,7 +1,7 @@
--- What a rule that matches says of bits holds in the run of its source on what registers hold where the function comes to
--- the root. An instruction may have more flags than its statement, so that a temporary's register holds poison where the
--- rule's holds a number; but what is known of a result's bits is so whatever the flags are.
-use Rattle.rewriter.proofs.Common.{◌≡◌, ◌≢◌, ℕ, suc, ◌+◌, ◌-◌, ◌<◌, ◌≤◌, ◌^◌, inl, inr, Bool, not, List, [], ◌∷◌, ◌++◌, length, map, take, length-take, length-append, Option, None, Some, refl, sym, ap, subst, ◌∙◌, arith, bit_and, slice_get, if◌then◌else◌, unwrap_or, option_map, Contains, IsTrue, eq-eqb, ne_eqb, cases_lt, same_Some, slice_get-map, slice_get_within, residue, bits, Number, IsValueOf, CastFits, conversion, selection, Value, MeetsChecks, IsInst, IsPhi, IsTyped, OperandHasWidth, Read, IsRead, read, reads_of, Registers, Function, Inst, some_at, EquationHolds, NumbersFit, HoldWidths, width_known, held_has, result_before, known_earlier, masked_number, non_zero_number, binary_has, cast_has, choice_has, has_nothing, has_certain, operand_width, any_width, KnownBit, known_at, known_result, known_results, known_of, insts_of, HasBits, Known, IsRule, SourceMayRead, operands_of, truth, source_operand, Held, Given, Holds, given_by, at_start, holding_source, TemporariesEnd, Follows, StatementGives, ArgumentGives, HeldFits, constant_values, number_or_zero, fact_holds, facts_hold, each_said, Argument, Formula, Rule, Statement, Contains-flat_map, Contains-from_get, get_taken, one_inst, inst_reads, get_left, get_right, IsOfItsWidth, IsSameOperation, StandsFor, OperandMatches, StatementMatches, IsMatch, FactFollows, number_of_term, operand_for, asked_before_root, Binding}
+-- What a rule that matches says of bits holds in the run of its source on what registers hold where the function comes
+-- to the root. An instruction may have more flags than its statement, so that a temporary's register holds poison where
+-- the rule's holds a number; but what is known of a result's bits is so whatever the flags are.
+use Rattle.rewriter.proofs.Common.{◌≡◌, ◌≢◌, ℕ, suc, ◌+◌, ◌-◌, ◌<◌, ◌≤◌, ◌^◌, inl, inr, Bool, not, List, [], ◌∷◌, ◌++◌, length, map, take, length-take, length-append, Option, None, Some, refl, sym, ap, subst, ◌∙◌, arith, bit_and, slice_get, if◌then◌else◌, unwrap_or, option_map, Contains, IsTrue, eq-eqb, ne_eqb, cases_eq, cases_lt, same_Some, slice_get-map, slice_get_within, residue, bits, Number, IsValueOf, CastFits, conversion, selection, Value, MeetsChecks, IsInst, IsPhi, IsTyped, OperandHasWidth, Read, IsRead, read, reads_of, Registers, Function, Inst, some_at, EquationHolds, NumbersFit, HoldWidths, width_known, held_has, result_before, known_earlier, masked_number, non_zero_number, binary_has, cast_has, choice_has, has_nothing, has_certain, operand_width, any_width, KnownBit, unknown, known_at, known_result, known_results, known_of, insts_of, HasBits, Known, IsRule, SourceMayRead, operands_of, truth, source_operand, Held, Given, Holds, given_by, at_start, holding_source, TemporariesEnd, Follows, StatementGives, ArgumentGives, HeldFits, constant_values, number_or_zero, fact_holds, facts_hold, each_said, Argument, Formula, Rule, Statement, Contains-flat_map, Contains-from_get, get_taken, one_inst, inst_reads, get_left, get_right, IsOfItsWidth, IsSameOperation, StandsFor, OperandMatches, InstMatches, StatementMatches, MatchesWhere, known_in, FactFollows, number_of_term, operand_for, asked_before_root, Binding}
 use Rattle.ops.specs.Counts.{binary_digits}
 use Rattle.ops.specs.declared.value.Value.TheVariants as values
 use Rattle.ops.specs.declared.value.Effect.TheVariants as effects
@@ -29,7 +29,8 @@ still_held typing given [] H end follows i v at = let same : H ≡ end = cc in s
 still_held typing given (s ∷ rest) H end (effects.Undefined, gives, goes) i v at = absurd cc
 still_held typing given (s ∷ rest) H end (effects.Gives u, gives, goes) i v at = still_held typing given rest (holding_source H u) end goes i v (get_left H.source (u ∷ []) i v at)
 
-module _ (f : Function) (b k : ℕ) (rule : Rule) (binding : Binding) (checked : IsRule rule) (meets : MeetsChecks f) (numbers : NumbersFit f) (match : IsMatch f b k rule binding)
+module _ {Before : ℕ → ℕ → ℕ → ℕ → Type 0} (f : Function) (b k : ℕ) (rule : Rule) (binding : Binding) (checked : IsRule rule) (meets : MeetsChecks f) (numbers : NumbersFit f) (match : MatchesWhere Before (known_in f) f b k rule binding)
+    (before_root : (j p : ℕ) → suc j < length rule.source → slice_get binding.statements j ≡ Some (registers.Result binding.block p) → p < binding.place)
     (held : Registers) (widths : HoldWidths f held)
     (equations : (p : ℕ) (inst : Inst) → p < binding.place → IsInst f binding.block p inst → ¬ IsPhi inst.op → EquationHolds held binding.block p inst) where
   abbrev typing : List ℕ
@@ -72,24 +73,35 @@ module _ (f : Function) (b k : ℕ) (rule : Rule) (binding : Binding) (checked :
         λ m is. let same : operands.Number n ≡ operands.Number m = sym x_is ∙ is in let one : n ≡ m = cc in u_is ∙ ap values.Bits one,
       )
 
-  -- the result of the instruction that a temporary is bound to
-  abbrev ResultHas : ℕ → Inst → Value → Type 0
-  ResultHas p inst v = IsValueOf inst.width v × HasBits (known_result (at_place p) inst.width inst.op) v
+  -- The result of the instruction that a temporary is bound to. Something is known of its bits in the root's block
+  -- alone.
+  abbrev ResultHas : ℕ → ℕ → Inst → Value → Type 0
+  ResultHas d p inst v = IsValueOf inst.width v × (d ≡ binding.block → HasBits (known_result (at_place p) inst.width inst.op) v)
 
-  result_has : (p q N : ℕ) (inst : Inst) (v : Value) → IsInst f binding.block q inst → ResultHas q inst v → OperandHasWidth f N (operands.Register (registers.Result binding.block q)) → Has p N (operands.Register (registers.Result binding.block q)) v
-  result_has p q N inst v is have has =
-      let width : inst.width ≡ N = same_Some inst.width N (sym (width_known f binding.block q is.block inst is.is_block is.is_inst) ∙ has) in
-      let value : IsValueOf N v = subst (λ w. IsValueOf w v) width have.0 in (
-        value,
-        known_earlier (λ bits. HasBits bits v) f binding.block p (suc (p + q)) N (operands.Register (registers.Result binding.block q)) (omega arith) (has_nothing N v value)
-            (subst (λ bits. HasBits bits v) (sym (result_before f binding.block q (suc (p + q)) N inst is (omega arith))) have.1),
-      )
+  unknown_elsewhere : (p d q N : ℕ) → ¬ (d ≡ binding.block) → at_place p N (operands.Register (registers.Result d q)) ≡ unknown N
+  unknown_elsewhere p d q N other = rw (ne_eqb d binding.block other) refl
+
+  result_has : (p d q N : ℕ) (inst : Inst) (v : Value) → IsInst f d q inst → ResultHas d q inst v → OperandHasWidth f N (operands.Register (registers.Result d q)) → Has p N (operands.Register (registers.Result d q)) v
+  result_has p d q N inst v is have has = (value, elim (cases_eq d binding.block) [ inl same ↦ in_block same | inr other ↦ subst (λ bits. HasBits bits v) (sym (unknown_elsewhere p d q N other)) (has_nothing N v value) ])
+    where
+      width : inst.width ≡ N
+      width = same_Some inst.width N (sym (width_known f d q is.block inst is.is_block is.is_inst) ∙ has)
+
+      value : IsValueOf N v
+      value = subst (λ w. IsValueOf w v) width have.0
+
+      in_block : d ≡ binding.block → HasBits (at_place p N (operands.Register (registers.Result d q))) v
+      in_block same =
+          let there : IsInst f binding.block q inst = subst (λ c. IsInst f c q inst) same is in
+          subst (λ c. HasBits (at_place p N (operands.Register (registers.Result c q))) v) (sym same)
+          (known_earlier (λ bits. HasBits bits v) f binding.block p (suc (p + q)) N (operands.Register (registers.Result binding.block q)) (omega arith) (has_nothing N v value)
+          (subst (λ bits. HasBits bits v) (sym (result_before f binding.block q (suc (p + q)) N inst there (omega arith))) (have.1 same)))
 
   -- the first j temporaries hold what has the bits that are known of their instructions
   record AllHave (j : ℕ) (H : Held) : Type 0 where
     inputs : H.inputs ≡ input_values held binding
     count : length H.source ≡ j
-    each : (i q : ℕ) (inst : Inst) (v : Value) → i < j → slice_get H.source i ≡ Some v → slice_get binding.statements i ≡ Some (registers.Result binding.block q) → IsInst f binding.block q inst → ResultHas q inst v
+    each : (i d q : ℕ) (inst : Inst) (v : Value) → i < j → slice_get H.source i ≡ Some v → slice_get binding.statements i ≡ Some (registers.Result d q) → IsInst f d q inst → ResultHas d q inst v
 
   module _ (j : ℕ) (H : Held) (all : AllHave j H) where
     input_held : (i : ℕ) (x : Operand) (u : Value) → slice_get binding.inputs i ≡ Some x → slice_get H.inputs i ≡ Some u → u ≡ input_value held x
@@ -108,10 +120,10 @@ module _ (f : Function) (b k : ℕ) (rule : Rule) (binding : Binding) (checked :
     argument_has p N (arguments.Register (names.Source i)) x u few (reg, at, is) may defined one has own gives =
         let (s, is_statement) = some_at rule.source i (let within : i < length binding.statements = slice_get_within binding.statements i reg at in omega (arith, within, match.statement_count)) in
         let m : StatementMatches f rule binding i s = match.statements i s is_statement in
-        let there : x ≡ operands.Register (registers.Result binding.block m.place) = is ∙ ap operands.Register (same_Some reg (registers.Result binding.block m.place) (sym at ∙ m.bound)) in
-        let have : ResultHas m.place m.inst u = all.each i m.place m.inst u may gives m.bound m.is_inst in (
-          subst (λ y. Has p N y u) (sym there) (result_has p m.place N m.inst u m.is_inst have (subst (OperandHasWidth f N) there has)),
-          λ n number. let same : operands.Register (registers.Result binding.block m.place) ≡ operands.Number n = sym there ∙ number in absurd cc,
+        let there : x ≡ operands.Register (registers.Result m.block m.place) = is ∙ ap operands.Register (same_Some reg (registers.Result m.block m.place) (sym at ∙ m.bound)) in
+        let have : ResultHas m.block m.place m.inst u = all.each i m.block m.place m.inst u may gives m.bound m.is_inst in (
+          subst (λ y. Has p N y u) (sym there) (result_has p m.block m.place N m.inst u m.is_inst have (subst (OperandHasWidth f N) there has)),
+          λ n number. let same : operands.Register (registers.Result m.block m.place) ≡ operands.Number n = sym there ∙ number in absurd cc,
         )
     argument_has p N (arguments.Register (names.Target i)) x u few for may defined one has own gives = absurd for
     argument_has p N (arguments.Literal z) x u few for may defined one has own gives = literal_has p N x (record { width = N; number = residue N z }) u for gives has own
@@ -163,32 +175,30 @@ module _ (f : Function) (b k : ℕ) (rule : Rule) (binding : Binding) (checked :
     by_op (rule_ops.Freeze a n) (ops.Freeze x) same typed each gives = has_nothing w v is
     by_op s i same typed each gives = absurd same
 
-  statement_has : (j : ℕ) (s : Statement) (H : Held) (v : Value) → slice_get rule.source j ≡ Some s → suc j < length rule.source → AllHave j H → (m : StatementMatches f rule binding j s)
-      → StatementGives typing given H s (effects.Gives v) → IsValueOf m.inst.width v → ResultHas m.place m.inst v
-  statement_has j s H v at before all m (N, class, gives) is =
-      let width : N ≡ m.inst.width = same_Some N m.inst.width (sym class ∙ m.matches.width) in
-      let stands_before : m.place < binding.place = match.before j m.place before m.bound in (
-        is,
-        by_op H m.place m.inst.width v is s.op m.inst.op m.matches.operation (meets.formed.insts binding.block m.place m.inst m.is_inst)
-            (λ n o r u at_n at_read gives_o. each n o r u at_n at_read gives_o (omega (arith, stands_before)))
-            (subst (λ M. RuleOpGives typing given H M s.op (effects.Gives v)) width gives),
-      )
+  statement_has : (j : ℕ) (s : Statement) (H : Held) (v : Value) → slice_get rule.source j ≡ Some s → suc j < length rule.source → AllHave j H → (p : ℕ) (inst : Inst) → slice_get binding.statements j ≡ Some (registers.Result binding.block p) → IsInst f binding.block p inst → InstMatches f rule binding j s binding.block p inst
+      → StatementGives typing given H s (effects.Gives v) → IsValueOf inst.width v → HasBits (known_result (at_place p) inst.width inst.op) v
+  statement_has j s H v at before all p inst bound is_inst matches (N, class, gives) is =
+      let width : N ≡ inst.width = same_Some N inst.width (sym class ∙ matches.width) in
+      let stands_before : p < binding.place = before_root j p before bound in
+      by_op H p inst.width v is s.op inst.op matches.operation (meets.formed.insts binding.block p inst is_inst)
+      (λ n o r u at_n at_read gives_o. each n o r u at_n at_read gives_o (omega (arith, stands_before)))
+      (subst (λ M. RuleOpGives typing given H M s.op (effects.Gives v)) width gives)
     where
-      each : (n : ℕ) (o : RuleOperand) (r : Read) (u : Value) → slice_get (operands_of s.op) n ≡ Some o → slice_get (reads_of f binding.block m.place m.inst.width m.inst.op) n ≡ Some r
-          → RuleOperandGives typing given H o u → m.place ≤ binding.place → (slice_get typing o.class ≡ Some r.width) × OperandHas m.place r u
+      each : (n : ℕ) (o : RuleOperand) (r : Read) (u : Value) → slice_get (operands_of s.op) n ≡ Some o → slice_get (reads_of f binding.block p inst.width inst.op) n ≡ Some r
+          → RuleOperandGives typing given H o u → p ≤ binding.place → (slice_get typing o.class ≡ Some r.width) × OperandHas p r u
       each n o r u at_n at_read (M, class_o, gives_o) few =
-          let is_read : IsRead f binding.block m.place n r = ap (λ (l : List Read). slice_get l n) (inst_reads f binding.block m.place m.inst m.is_inst) ∙ at_read in
-          let matched : OperandMatches binding o r = m.matches.operands n o r at_n is_read in
-          let has : OperandHasWidth f r.width r.operand = meets.formed.operands binding.block m.place n r is_read in
-          let own : IsOfItsWidth r.operand = number_own r.operand (λ c. numbers binding.block m.place n r c is_read) in
+          let is_read : IsRead f binding.block p n r = ap (λ (l : List Read). slice_get l n) (inst_reads f binding.block p inst is_inst) ∙ at_read in
+          let matched : OperandMatches binding o r = matches.operands n o r at_n is_read in
+          let has : OperandHasWidth f r.width r.operand = meets.formed.operands binding.block p n r is_read in
+          let own : IsOfItsWidth r.operand = number_own r.operand (λ c. numbers binding.block p n r c is_read) in
           let among : Contains (operands_of s.op) o = Contains-from_get (operands_of s.op) n o at_n in
           let may : SourceMayRead rule j o.value = checked.source_reads j s o at among in
           let defined : IsDefined o.value = λ c is_undef. let root : suc j ≡ length rule.source = subst (SourceMayRead rule j) is_undef may in absurd (omega arith) in
           let one : (t : Bool) → o.value ≡ arguments.Truth t → r.width ≡ 1 = λ t is_truth.
           same_Some r.width 1 (sym matched.width ∙ match.typing.fixed o.class 1 (truth (source_operand rule o (Contains-flat_map (λ (t : Statement). operands_of t.op) rule.source s o (Contains-from_get rule.source j s at) among)) is_truth)) in
           let same : M ≡ r.width = same_Some M r.width (sym class_o ∙ matched.width) in
-          let found = argument_has j H all m.place r.width o.value r.operand u few matched.value may defined one has own (subst (λ N. ArgumentGives typing given H N o.value u) same gives_o) in
-          (matched.width, record { width = operand_width f meets.formed binding.block m.place r.width r.operand has; has = found.0; literal = found.1 })
+          let found = argument_has j H all p r.width o.value r.operand u few matched.value may defined one has own (subst (λ N. ArgumentGives typing given H N o.value u) same gives_o) in
+          (matched.width, record { width = operand_width f meets.formed binding.block p r.width r.operand has; has = found.0; literal = found.1 })
 
   -- ---- the temporaries, and what is said of registers
 
@@ -208,30 +218,35 @@ module _ (f : Function) (b k : ℕ) (rule : Rule) (binding : Binding) (checked :
         let m : StatementMatches f rule binding j s = match.statements j s at in
         let here : slice_get (G.source ++ v ∷ []) j ≡ Some v = get_right G.source (v ∷ []) 0 j v refl (omega (arith, all.count)) in
         let value : IsValueOf m.inst.width v = value_fits j s v at m (still_held typing given rest (holding_source G v) H goes j v here) in
-        let have : ResultHas m.place m.inst v = statement_has j s G v at before all m gives value in
+        let have : ResultHas m.block m.place m.inst v = (
+          value,
+          λ same. statement_has j s G v at before all m.place m.inst (subst (λ d. slice_get binding.statements j ≡ Some (registers.Result d m.place)) same m.bound)
+              (subst (λ d. IsInst f d m.place m.inst) same m.is_inst) (subst (λ d. InstMatches f rule binding j s d m.place m.inst) same m.matches) gives value,
+        ) in
         let steps : suc j + length rest ≡ j + suc (length rest) = omega arith in
         let align' : (i : ℕ) (t : Statement) → slice_get rest i ≡ Some t → (slice_get rule.source (suc j + i) ≡ Some t) × (suc (suc j + i) < length rule.source) = λ i t h.
         let next : j + suc i ≡ suc j + i = omega arith in
         subst (λ n. (slice_get rule.source n ≡ Some t) × (suc n < length rule.source)) next (align (suc i) t h) in
         subst (λ n. AllHave n H) steps (temporaries_have rest (suc j) (holding_source G v) align' (one_more j G v m have all) goes)
       where
-        one_more : (j : ℕ) (G : Held) (v : Value) {s : Statement} (m : StatementMatches f rule binding j s) → ResultHas m.place m.inst v → AllHave j G → AllHave (suc j) (holding_source G v)
+        one_more : (j : ℕ) (G : Held) (v : Value) {s : Statement} (m : StatementMatches f rule binding j s) → ResultHas m.block m.place m.inst v → AllHave j G → AllHave (suc j) (holding_source G v)
         one_more j G v m have all = record {
           inputs = all.inputs;
           count = length-append G.source (v ∷ []) ∙ (let count : length G.source ≡ j = all.count in omega arith);
-          each = λ i q inst u less at bound is. elim (cases_lt i j) [
+          each = λ i d q inst u less at bound is. elim (cases_lt i j) [
             | inl earlier ↦
                 let (x, at_x) = some_at G.source i (let count : length G.source ≡ j = all.count in omega arith) in
                 let same : x ≡ u = same_Some x u (sym (get_left G.source (v ∷ []) i x at_x) ∙ at) in
-                all.each i q inst u earlier (subst (λ y. slice_get G.source i ≡ Some y) same at_x) bound is
+                all.each i d q inst u earlier (subst (λ y. slice_get G.source i ≡ Some y) same at_x) bound is
             | inr later ↦
                 let same : i ≡ j = omega arith in
-                let place : registers.Result binding.block m.place ≡ registers.Result binding.block q =
-                same_Some (registers.Result binding.block m.place) (registers.Result binding.block q) (sym m.bound ∙ subst (λ n. slice_get binding.statements n ≡ Some (registers.Result binding.block q)) same bound) in
+                let place : registers.Result m.block m.place ≡ registers.Result d q =
+                same_Some (registers.Result m.block m.place) (registers.Result d q) (sym m.bound ∙ subst (λ n. slice_get binding.statements n ≡ Some (registers.Result d q)) same bound) in
+                let block : m.block ≡ d = cc in
                 let there : m.place ≡ q = cc in
-                let one : m.inst ≡ inst = one_inst f binding.block q m.inst inst (subst (λ n. IsInst f binding.block n m.inst) there m.is_inst) is in
+                let one : m.inst ≡ inst = one_inst f d q m.inst inst (subst (λ n. IsInst f d n m.inst) there (subst (λ c. IsInst f c m.place m.inst) block m.is_inst)) is in
                 let value : v ≡ u = same_Some v u (sym (get_right G.source (v ∷ []) 0 i v refl (let count : length G.source ≡ j = all.count in omega arith)) ∙ at) in
-                subst (ResultHas q inst) value (subst (λ x. ResultHas q x v) one (subst (λ n. ResultHas n m.inst v) there have))
+                subst (ResultHas d q inst) value (subst (λ x. ResultHas d q x v) one (subst (λ n. ResultHas d n m.inst v) there (subst (λ c. ResultHas c m.place m.inst v) block have)))
           ];
         }
 
@@ -242,7 +257,7 @@ module _ (f : Function) (b k : ℕ) (rule : Rule) (binding : Binding) (checked :
           let count : 0 + length (take n rule.source) ≡ n = omega (arith, length-take n rule.source) in
           subst (λ m. AllHave m H) count (temporaries_have (take n rule.source) 0 (at_start (input_values held binding))
           (λ i s h. let whole = get_taken rule.source n i s h in let lt : i < n = whole.1 in (subst (λ p. slice_get rule.source p ≡ Some s) (omega arith) whole.0, omega arith))
-          (record { inputs = refl; count = refl; each = λ i q inst v less. absurd (omega arith) }) ends)
+          (record { inputs = refl; count = refl; each = λ i d q inst v less. absurd (omega arith) }) ends)
 
       -- what a register holds has the bits that are known at the root of what the binding gives for it
       record NameHas (r : Name) : Type 0 where
@@ -257,8 +272,8 @@ module _ (f : Function) (b k : ℕ) (rule : Rule) (binding : Binding) (checked :
       name_has (names.Input i) before =
           let (x, at) = some_at binding.inputs i (omega (arith, before, match.input_count)) in
           let (o, s, among, reads, is) = input_read f b k rule binding checked meets numbers match i x at in
-          let has : OperandHasWidth f s.read.width x = subst (OperandHasWidth f s.read.width) is (meets.formed.operands binding.block s.place s.index s.read s.is_read) in
-          let own : IsOfItsWidth x = subst IsOfItsWidth is (number_own s.read.operand (λ n. numbers binding.block s.place s.index s.read n s.is_read)) in
+          let has : OperandHasWidth f s.read.width x = subst (OperandHasWidth f s.read.width) is (meets.formed.operands s.block s.place s.index s.read s.is_read) in
+          let own : IsOfItsWidth x = subst IsOfItsWidth is (number_own s.read.operand (λ n. numbers s.block s.place s.index s.read n s.is_read)) in
           let other : x ≢ operands.Undef = λ is_undef. match.no_undef (Contains-from_get binding.inputs i operands.Undef (at ∙ ap (λ y. Some y) is_undef)) in
           record {
             N = s.read.width;
@@ -272,14 +287,14 @@ module _ (f : Function) (b k : ℕ) (rule : Rule) (binding : Binding) (checked :
           let (s, at) = some_at rule.source j (omega (arith, before)) in
           let m : StatementMatches f rule binding j s = match.statements j s at in
           let (v, holds) = some_at H.source j (let count : length H.source ≡ length rule.source - 1 = all_have.count in omega (arith, before)) in
-          let have : ResultHas m.place m.inst v = all_have.each j m.place m.inst v (omega (arith, before)) holds m.bound m.is_inst in
+          let have : ResultHas m.block m.place m.inst v = all_have.each j m.block m.place m.inst v (omega (arith, before)) holds m.bound m.is_inst in
           record {
             N = m.inst.width;
-            x = operands.Register (registers.Result binding.block m.place);
+            x = operands.Register (registers.Result m.block m.place);
             v = v;
             bound = ap (option_map operands.Register) m.bound;
             holds = holds;
-            has = result_has binding.place m.place m.inst.width m.inst v m.is_inst have (width_known f binding.block m.place m.is_inst.block m.inst m.is_inst.is_block m.is_inst.is_inst);
+            has = result_has binding.place m.block m.place m.inst.width m.inst v m.is_inst have (width_known f m.block m.place m.is_inst.block m.inst m.is_inst.is_block m.is_inst.is_inst);
           }
       name_has (names.Target j) before = absurd before
 

@@ -1,6 +1,6 @@
 -- What registers hold where the function comes to the root, and the numbers that were taken for the target's choices,
 -- are a setting of the rule that fits.
-use Rattle.rewriter.proofs.Common.{◌≡◌, ℕ, suc, ◌<◌, ◌≤◌, ◌^◌, inl, inr, List, length, Some, None, refl, sym, ap, subst, ◌∙◌, arith, get_or, slice_get, unwrap_or, option_map, cases_lt, length-map, same_Some, slice_get-map, slice_get-get_or, slice_get_within, bits, Number, IsValueOf, Value, MeetsChecks, OperandHasWidth, Read, IsRead, Registers, Function, HoldWidths, place_in, IsRule, TargetMayRead, operands_of, operands_among, choices_among, LeavesOpen, IsOperandAmong, name, reads, reads_constant, chooses, operand, constant_values, value_at, HasNumber, InputsFit, ConstantsFit, SettingFits, Rule, Statement, Term, Contains-from_get, flat_map-from, source_operand, target_operand, constant_values_fit, NumbersFit, IsOfItsWidth, inst_reads, IsMatch, StandsFor, OperandMatches, StatementMatches, Binding}
+use Rattle.rewriter.proofs.Common.{◌≡◌, ℕ, ◌<◌, ◌^◌, List, length, Some, None, refl, sym, ap, subst, ◌∙◌, arith, get_or, slice_get, unwrap_or, option_map, length-map, same_Some, slice_get-map, slice_get-get_or, slice_get_within, bits, Number, IsValueOf, Value, MeetsChecks, OperandHasWidth, Read, IsRead, Registers, Function, HoldWidths, place_in, IsRule, TargetMayRead, operands_of, operands_among, choices_among, LeavesOpen, IsOperandAmong, name, reads, reads_constant, chooses, operand, constant_values, value_at, HasNumber, InputsFit, ConstantsFit, SettingFits, Rule, Statement, Term, Contains-from_get, flat_map-from, source_operand, target_operand, constant_values_fit, NumbersFit, IsOfItsWidth, inst_reads, MatchesWhere, known_in, StandsFor, OperandMatches, StatementMatches, Binding}
 use Rattle.ops.specs.declared.value.Value.TheVariants as values
 use Rattle.ir_core.specs.declared.operand.Operand.{Operand}
 use Rattle.ir_core.specs.declared.operand.Operand.TheVariants as operands
@@ -9,20 +9,17 @@ use Rattle.rule_core.specs.declared.rule.Name.TheVariants as rule_names
 use Rattle.rule_core.specs.declared.rule.Node.TheVariants as nodes
 use Rattle.rule_core.specs.declared.rule.Operand.{Operand as RuleOperand}
 use Rattle.rule_core.specs.declared.rule.Register.TheVariants as names
-use Rattle.rewriter.proofs.Matched.{read_there, same_is_computed, reads_here}
+use Rattle.rewriter.proofs.Matched.{read_there}
 use Rattle.rewriter.proofs.Source.{input_value, input_values}
 use Rattle.rewriter.proofs.Target.{TermFits}
 
--- An operand of the source stands for an operand that is read at an instruction of the root's block, at the root or
--- before it.
+-- an operand of the source stands for an operand that an instruction reads
 pub record SourceRead (f : Function) (binding : Binding) (o : RuleOperand) : Type 0 where
   pub read : Read
+  pub block : ℕ
   pub place : ℕ
   pub index : ℕ
-  pub le : place ≤ binding.place
-  pub is_read : IsRead f binding.block place index read
-  pub block_is : read.block ≡ binding.block
-  pub place_is : read.place ≡ place
+  pub is_read : IsRead f block place index read
   pub matches : OperandMatches binding o read
 
 -- a number that is read is of its width
@@ -39,25 +36,16 @@ input_fits f held w (operands.Number n) widths has own = (has, subst (λ x. n.nu
 input_fits f held w operands.Undef widths has own = tt
 input_fits f held w operands.Poison widths has own = tt
 
-module _ (f : Function) (b k : ℕ) (rule : Rule) (binding : Binding) (checked : IsRule rule) (meets : MeetsChecks f) (numbers : NumbersFit f) (match : IsMatch f b k rule binding) where
+module _ {Before : ℕ → ℕ → ℕ → ℕ → Type 0} (f : Function) (b k : ℕ) (rule : Rule) (binding : Binding) (checked : IsRule rule) (meets : MeetsChecks f) (numbers : NumbersFit f) (match : MatchesWhere Before (known_in f) f b k rule binding) where
   -- each operand of the source stands for one that is read so
   pub source_read : (o : RuleOperand) → IsOperandAmong rule.source o → SourceRead f binding o
   source_read o among =
       let from = flat_map-from (λ (s : Statement). operands_of s.op) rule.source o among in
       let m : StatementMatches f rule binding from.0 from.1 = match.statements from.0 from.1 from.2 in
       let n = place_in (operands_of from.1.op) o from.3 in
-      let r = read_there f binding.block m.place m.inst.width from.1.op m.inst.op m.matches.operation n.0 o n.1 in
-      let is_read : IsRead f binding.block m.place n.0 r.0 = ap (λ (l : List Read). slice_get l n.0) (inst_reads f binding.block m.place m.inst m.is_inst) ∙ r.1 in
-      let here = reads_here f binding.block m.place m.inst.width m.inst.op (same_is_computed from.1.op m.inst.op m.matches.operation) n.0 r.0 r.1 in
-      record { read = r.0; place = m.place; index = n.0; le = at_or_before from.0 from.1 from.2 m; is_read = is_read; block_is = here.0; place_is = here.1; matches = m.matches.operands n.0 o r.0 n.1 is_read }
-    where
-      at_or_before : (j : ℕ) (s : Statement) → slice_get rule.source j ≡ Some s → (m : StatementMatches f rule binding j s) → m.place ≤ binding.place
-      at_or_before j s at m =
-          let within : j < length rule.source = slice_get_within rule.source j s at in
-          elim (cases_lt (suc j) (length rule.source)) [
-            | inl before ↦ let lt : m.place < binding.place = match.before j m.place before m.bound in omega arith
-            | inr last ↦ let is : m.place ≡ binding.place = m.matches.root (omega arith) in omega arith
-          ]
+      let r = read_there f m.block m.place m.inst.width from.1.op m.inst.op m.matches.operation n.0 o n.1 in
+      let is_read : IsRead f m.block m.place n.0 r.0 = ap (λ (l : List Read). slice_get l n.0) (inst_reads f m.block m.place m.inst m.is_inst) ∙ r.1 in
+      record { read = r.0; block = m.block; place = m.place; index = n.0; is_read = is_read; matches = m.matches.operands n.0 o r.0 n.1 is_read }
 
   -- each input and each constant is bound to one that is read so
   pub input_read : (i : ℕ) (a : Operand) → slice_get binding.inputs i ≡ Some a → (o : RuleOperand) × (s : SourceRead f binding o) × IsOperandAmong rule.source o × (o.value ≡ arguments.Register (names.Input i)) × (s.read.operand ≡ a)
@@ -93,8 +81,8 @@ module _ (f : Function) (b k : ℕ) (rule : Rule) (binding : Binding) (checked :
             let is : input_value held a ≡ v = same_Some (input_value held a) v (sym (slice_get-map (input_value held) binding.inputs i ∙ ap (option_map (input_value held)) there) ∙ at) in
             let r = input_read i a there in
             let s : SourceRead f binding r.0 = r.1 in
-            let has : OperandHasWidth f s.read.width s.read.operand = meets.formed.operands binding.block s.place s.index s.read s.is_read in
-            let own : IsOfItsWidth s.read.operand = number_own s.read.operand (λ n. numbers binding.block s.place s.index s.read n s.is_read) in
+            let has : OperandHasWidth f s.read.width s.read.operand = meets.formed.operands s.block s.place s.index s.read s.is_read in
+            let own : IsOfItsWidth s.read.operand = number_own s.read.operand (λ n. numbers s.block s.place s.index s.read n s.is_read) in
             let same = match.typing.same r.0.class c (name {n = rule_names.Register (names.Input i)} (reads (source_operand rule r.0 r.2) r.3) named) in
             let w : s.read.width ≡ N = same_Some s.read.width N (sym s.matches.width ∙ same ∙ width) in
             subst (λ n. IsValueOf n v) w (subst (λ x. IsValueOf s.read.width x) is (subst (λ x. IsValueOf s.read.width (input_value held x)) r.4 (input_fits f held s.read.width s.read.operand widths has own)));
@@ -107,8 +95,8 @@ module _ (f : Function) (b k : ℕ) (rule : Rule) (binding : Binding) (checked :
         widths = λ i c N n named width at.
             let r = constant_read i n at in
             let s : SourceRead f binding r.0 = r.1 in
-            let has : OperandHasWidth f s.read.width (operands.Number n) = subst (λ x. OperandHasWidth f s.read.width x) r.4 (meets.formed.operands binding.block s.place s.index s.read s.is_read) in
-            let own : n.number < 2 ^ n.width = subst (λ x. IsOfItsWidth x) r.4 (number_own s.read.operand (λ n. numbers binding.block s.place s.index s.read n s.is_read)) in
+            let has : OperandHasWidth f s.read.width (operands.Number n) = subst (λ x. OperandHasWidth f s.read.width x) r.4 (meets.formed.operands s.block s.place s.index s.read s.is_read) in
+            let own : n.number < 2 ^ n.width = subst (λ x. IsOfItsWidth x) r.4 (number_own s.read.operand (λ n. numbers s.block s.place s.index s.read n s.is_read)) in
             let same = match.typing.same r.0.class c (name {n = rule_names.Constant i} (reads_constant (source_operand rule r.0 r.2) r.3) named) in
             let w : s.read.width ≡ N = same_Some s.read.width N (sym s.matches.width ∙ same ∙ width) in
             let n_is : n.width ≡ N = has ∙ w in

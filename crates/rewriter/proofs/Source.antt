@@ -99,13 +99,13 @@ module _ (f : Function) (rule : Rule) (binding : Binding) (held : Registers) whe
 
   module _ (checked : IsRule rule) (typed : IsTyping rule binding.typing) (j : ℕ) (s : Statement) (at : slice_get rule.source j ≡ Some s) (matches : StatementMatches f rule binding j s) where
     abbrev pub reads : List Read
-    reads = reads_of f binding.block matches.place matches.inst.width matches.inst.op
+    reads = reads_of f matches.block matches.place matches.inst.width matches.inst.op
 
     pub is_computed : IsComputed matches.inst.op
     is_computed = same_is_computed s.op matches.inst.op matches.matches.operation
 
     pub operand_matches : (n : ℕ) (o : RuleOperand) (r : Read) → slice_get (operands_of s.op) n ≡ Some o → slice_get reads n ≡ Some r → OperandMatches binding o r
-    operand_matches n o r here there = matches.matches.operands n o r here (ap (λ (l : List Read). slice_get l n) (inst_reads f binding.block matches.place matches.inst matches.is_inst) ∙ there)
+    operand_matches n o r here there = matches.matches.operands n o r here (ap (λ (l : List Read). slice_get l n) (inst_reads f matches.block matches.place matches.inst matches.is_inst) ∙ there)
 
     pub widths_agree : (n : ℕ) (o : RuleOperand) (r : Read) → slice_get (operands_of s.op) n ≡ Some o → slice_get reads n ≡ Some r → slice_get binding.typing o.class ≡ Some r.width
     widths_agree n o r here there = (operand_matches n o r here there).width
@@ -124,8 +124,7 @@ module _ (f : Function) (rule : Rule) (binding : Binding) (held : Registers) whe
 
   module _ (checked : IsRule rule) (typed : IsTyping rule binding.typing) (no_undef : Contains binding.inputs operands.Undef → ⊥)
       (statements : (j : ℕ) (s : Statement) → slice_get rule.source j ≡ Some s → StatementMatches f rule binding j s)
-      (stand_before : (j p : ℕ) → suc j < length rule.source → slice_get binding.statements j ≡ Some (registers.Result binding.block p) → p < binding.place)
-      (equations : (p : ℕ) (inst : Inst) → p < binding.place → IsInst f binding.block p inst → IsComputed inst.op → EquationHolds held binding.block p inst) where
+      (equations : (j d p : ℕ) (inst : Inst) → suc j < length rule.source → slice_get binding.statements j ≡ Some (registers.Result d p) → IsInst f d p inst → IsComputed inst.op → EquationHolds held d p inst) where
     abbrev pub given : Given
     given = given_by binding.typing binding.constants [] rule
 
@@ -135,13 +134,13 @@ module _ (f : Function) (rule : Rule) (binding : Binding) (held : Registers) whe
     source_step j s H at before standing =
         let m : StatementMatches f rule binding j s = statements j s at in
         let is : IsComputed m.inst.op = is_computed checked typed j s at m in
-        let eq : EquationHolds held binding.block m.place m.inst = equations m.place m.inst (stand_before j m.place before m.bound) m.is_inst is in
-        let x = op_computes f binding.block m.place held m.inst.width m.inst.op (effects.Gives eq.0) is eq.2 in
+        let eq : EquationHolds held m.block m.place m.inst = equations j m.block m.place m.inst before m.bound m.is_inst is in
+        let x = op_computes f m.block m.place held m.inst.width m.inst.op (effects.Gives eq.0) is eq.2 in
         let none : ¬ IsFreeze s.op = no_freeze_before rule j s.op before (checked.source_ops j s at) in
         let plain : inputs_of s.class s.op ≡ operands_of s.op = plain_inputs s.class s.op none in
-        let taken = plain_reads f binding.block m.place m.inst.width s.op m.inst.op m.matches.operation none in
+        let taken = plain_reads f m.block m.place m.inst.width s.op m.inst.op m.matches.operation none in
         let one : (n : ℕ) (o : RuleOperand) → slice_get (operands_of s.op) n ≡ Some o → (u : Value) × (RuleOperandGives binding.typing given H o u × Stands (x.0 n) u) = λ n o here.
-        let r = read_there f binding.block m.place m.inst.width s.op m.inst.op m.matches.operation n o here in
+        let r = read_there f m.block m.place m.inst.width s.op m.inst.op m.matches.operation n o here in
         let defined : IsDefined o.value = λ k is. let root : suc j ≡ length rule.source = subst (SourceMayRead rule j) is (may_read checked typed j s at m n o here) in absurd (omega arith) in
         let g = operand_gives no_undef given refl j H standing o r.0 (x.0 n) (operand_matches checked typed j s at m n o r.0 here r.1) (may_read checked typed j s at m n o here) defined (truth_width checked typed j s at m n o r.0 here r.1) (x.1 n r.0 (ap (λ (l : List Read). slice_get l n) taken ∙ r.1)) in
         (g.0, (g.1, g.2)) in
@@ -149,12 +148,12 @@ module _ (f : Function) (rule : Rule) (binding : Binding) (held : Registers) whe
         let e : Effect = effect_of (computed binding.typing m.inst.width s.op) u.0 in
         let gives : StatementGives binding.typing given H s e = (m.inst.width, m.matches.width, rule_gives binding.typing given H s.class m.inst.width m.matches.width s.op u.0 (λ n o here. (u.1 n o (ap (λ (l : List RuleOperand). slice_get l n) (sym plain) ∙ here)).0)) in
         let own : Effect = effect_of (computed binding.typing m.inst.width s.op) x.0 in
-        let by_flags : AllowsEffect (effect_of (computed_by m.inst.width m.inst.op) x.0) own = inst_allows binding.typing f binding.block m.place m.inst.width s.op m.inst.op m.matches.operation m.matches.flags (widths_agree checked typed j s at m) x.0 in
+        let by_flags : AllowsEffect (effect_of (computed_by m.inst.width m.inst.op) x.0) own = inst_allows binding.typing f m.block m.place m.inst.width s.op m.inst.op m.matches.operation m.matches.flags (widths_agree checked typed j s at m) x.0 in
         let by_values : AllowsEffect own e = effects_allow binding.typing m.inst.width s.op x.0 u.0 none (λ n o here. (u.1 n o here).1.0) in
         let allows : AllowsEffect (effects.Gives eq.0) e = subst (λ (d : Effect). AllowsEffect d e) (sym x.2) (AllowsEffect-trans (effect_of (computed_by m.inst.width m.inst.op) x.0) own e by_flags by_values) in
         let r = given_of eq.0 e allows in
         let exact : TargetNamesTemporary rule → eq.0 ≡ r.0 = λ reads.
-        let same : computed_by m.inst.width m.inst.op ≡ computed binding.typing m.inst.width s.op = inst_same binding.typing f binding.block m.place m.inst.width s.op m.inst.op m.matches.operation (m.matches.no_more_flags before reads) (widths_agree checked typed j s at m) in
+        let same : computed_by m.inst.width m.inst.op ≡ computed binding.typing m.inst.width s.op = inst_same binding.typing f m.block m.place m.inst.width s.op m.inst.op m.matches.operation (m.matches.no_more_flags before reads) (widths_agree checked typed j s at m) in
         let equal : own ≡ e = effects_same binding.typing s.class m.inst.width s.op x.0 u.0 (λ n o here. (u.1 n o (ap (λ (l : List RuleOperand). slice_get l n) (sym plain) ∙ here)).1.1 reads) in
         let read : effects.Gives eq.0 ≡ effect_of (computed_by m.inst.width m.inst.op) x.0 = x.2 in
         let computes : effect_of (computed_by m.inst.width m.inst.op) x.0 ≡ own = ap (λ (c : Computation). effect_of c x.0) same in
@@ -162,7 +161,7 @@ module _ (f : Function) (rule : Rule) (binding : Binding) (held : Registers) whe
         cc in (
           r.0,
           subst (λ (d : Effect). StatementGives binding.typing given H s d) r.1 gives,
-          λ reg bound. (eq.0, ap held (same_Some reg (registers.Result binding.block m.place) (sym bound ∙ m.bound)) ∙ eq.1, (r.2, exact)),
+          λ reg bound. (eq.0, ap held (same_Some reg (registers.Result m.block m.place) (sym bound ∙ m.bound)) ∙ eq.1, (r.2, exact)),
         )
 
     standing_next : (j : ℕ) (H : Held) (r : Value) → Standing j H → ((reg : Register) → slice_get binding.statements j ≡ Some reg → (t : Value) × (held reg ≡ Some t) × Stands t r) → Standing (suc j) (holding_source H r)

@@ -2,7 +2,6 @@
 use Rattle.rewriter.proofs.Common.{◌≡◌, ℕ, suc, ◌<◌, ◌≤◌, List, length, Some, sym, ap, subst, ◌∙◌, arith, get_or, slice_get, slice_index, option_map_or, slice_get-get_or, get_or_from_slice_get, Number, Register, TargetMayRead, Argument, Rule, Binding, argument_put, IsBound}
 use Rattle.ir_core.specs.declared.operand.Operand.{Operand}
 use Rattle.ir_core.specs.declared.operand.Operand.TheVariants as operands
-use Rattle.ir_core.specs.declared.operand.Register.TheVariants as registers
 use Rattle.rule_core.specs.declared.rule.Argument.TheVariants as arguments
 use Rattle.rule_core.specs.declared.rule.Register.{Register as RuleRegister}
 use Rattle.rule_core.specs.declared.rule.Register.TheVariants as names

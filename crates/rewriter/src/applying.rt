@@ -1,6 +1,6 @@
 //! Rules applied to functions.
 
-ghost use Rattle.std.specs.Prelude.{◌≡◌, ◌-◌, ◌<◌, ◌^◌, length, IfOk, OnOk, OnErr};
+ghost use Rattle.std.specs.Prelude.{◌≡◌, ◌-◌, ◌<◌, ◌^◌, Bool, length, IfOk, OnOk, OnErr};
 ghost use Rattle.ir_core.specs.Blocks.{HasInst, IsBlock};
 ghost use Rattle.ir_core.specs.Checks.{IsInst, MeetsChecks};
 ghost use Rattle.ir_core.specs.declared.function.Block.{Block};
@@ -52,7 +52,8 @@ pub fn apply(
 ) -> Result<(), AllocError>
     requires rule { IsRule rule.now }
     requires checks { MeetsChecks f.old }
-    requires matches { IsMatch f.old binding.now.block binding.now.place rule.now binding.now }
+    // It matches inside the root's block, or across blocks.
+    requires matches { (across : Bool) × IsMatch across f.old binding.now.block binding.now.place rule.now binding.now }
 
     // Places are counted in 32 bits, and a rule inserts 32 instructions at most.
     requires places { (block : Block) → IsBlock f.old binding.now.block block

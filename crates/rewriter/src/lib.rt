@@ -12,4 +12,6 @@ mod operands;
 
 pub use applying::apply;
 pub use insts::rewrite_of;
-pub use laws::{rewritten_functions_meet_checks, rewritten_functions_refine};
+pub use laws::{
+    equations_of_statements_hold, rewritten_functions_meet_checks, rewritten_functions_refine,
+};

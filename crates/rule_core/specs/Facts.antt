@@ -1,5 +1,5 @@
--- What members of `Pre:` say of the bits of registers. It is known where a rule is applied, and a premise where a rule is
--- decided.
+-- What members of `Pre:` say of the bits of registers. It is known where a rule is applied, and a premise where a rule
+-- is decided.
 use Rattle.std.specs.Prelude.{ℕ, Bool, true, not, ◌==◌, bit_and, IsTrue, List, map, slice_index}
 use Rattle.std.specs.List.{list_all}
 use Rattle.std.specs.Option.{unwrap_or}

@@ -178,8 +178,8 @@ pub enum Formula {
     /// `hasOneUse`: the register that this source statement assigns is used once where the rule is applied. When a rule
     /// is decided it counts as true.
     HasOneUse(u32),
-    /// `MaskedValueIsZero`: the register has no bit that is set in the term, which is of its class, or is poison. A rule
-    /// is decided where this holds, and applied where it is known; in the formula it counts as true.
+    /// `MaskedValueIsZero`: the register has no bit that is set in the term, which is of its class, or is poison. A
+    /// rule is decided where this holds, and applied where it is known; in the formula it counts as true.
     MaskedValueIsZero(Register, u32),
     /// `isKnownNonZero`: the register is not 0, or is poison. It counts likewise.
     IsKnownNonZero(Register),

@@ -1,5 +1,5 @@
 -- What the proofs of this crate cite of definitions, of other crates and of the libraries, passed on from one place.
-pub use Rattle.std.proofs.Common.{All, AllPairs, Contains, Err, HoldsAt, IfNone, IfOk, IfSome, List, MatchOption, None, Ok, Option, Result, Some, [], ap, arith, drop, get_or, inl, inr, length, option_and_then, option_map, option_to_list, refl, rules, slice_get, slice_set, subst, suc, sym, take, tests, zero, ℕ, ◌++◌, ◌+◌, ◌-◌, ◌<◌, ◌∙◌, ◌∷◌, ◌≡◌, ◌≤◌, ◌⊎◌}
+pub use Rattle.std.proofs.Common.{All, AllPairs, Bool, Contains, Err, HoldsAt, IfNone, IfOk, IfSome, List, MatchOption, None, Ok, Option, Result, Some, [], ap, arith, drop, get_or, inl, inr, length, option_and_then, option_map, option_to_list, refl, rules, slice_get, slice_set, subst, suc, sym, take, tests, zero, ℕ, ◌++◌, ◌+◌, ◌-◌, ◌<◌, ◌∙◌, ◌∷◌, ◌≡◌, ◌≤◌, ◌⊎◌}
 pub use Rattle.bindings.proofs.Knowing.{known_too}
 pub use Rattle.bindings.proofs.Reading.{same_inst}
 pub use Rattle.bindings.specs.Known.{AskBits, Knowledge, known_by, known_in}
@@ -35,6 +35,6 @@ pub use Rattle.std.proofs.lemmas.List.{get_or-take, length-take-le, take_all, ta
 pub use Rattle.std.proofs.lemmas.List.Elements.{All-append, All-contains, Contains-append_left, Contains-append_right, Contains-get_or, Contains-push, Contains-push_cases}
 pub use Rattle.std.proofs.lemmas.List.Kept.{AllPairs-cons}
 pub use Rattle.std.proofs.lemmas.List.Quantifiers.{all_pairs_push}
-pub use Rattle.std.proofs.lemmas.Option.{get_or_from_slice_get, none-some, same_Some, slice_get-get_or, slice_get_past, slice_get_read, slice_get_within}
+pub use Rattle.std.proofs.lemmas.Option.{get_or_from_slice_get, none-some, same_Some, slice_get-get_or, slice_get_past, slice_get_within}
 pub use Rattle.std.specs.List.{AllWithin}
 pub use Rattle.std.specs.Prelude.{unwrap_or}

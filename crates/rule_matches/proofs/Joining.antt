@@ -1,5 +1,5 @@
 -- The matches of one part of a function, followed by those of the next.
-use Rattle.rule_matches.proofs.Common.{◌≡◌, ◌⊎◌, inl, inr, ℕ, zero, suc, ◌<◌, ◌≤◌, List, [], ◌∷◌, ◌++◌, length, get_or, take, Some, refl, sym, ap, subst, ◌∙◌, arith, All, AllPairs, Contains, slice_get, cases_eq, cases_lt, get_or-take, length-take-le, All-append, All-contains, Contains-append_left, Contains-append_right, Contains-get_or, AllPairs-cons, get_or_from_slice_get, slice_get-get_or, slice_get_within, IsBefore, Function, Rule, Contains-take, Match, MatchesAmong, IsMatchAmong, ComesBefore, AreMatches, AreMatchesAmong, AreMatchesWhere, Knowledge}
+use Rattle.rule_matches.proofs.Common.{◌≡◌, ◌⊎◌, inl, inr, ℕ, zero, suc, ◌<◌, ◌≤◌, Bool, List, [], ◌∷◌, ◌++◌, length, get_or, take, Some, refl, sym, ap, subst, ◌∙◌, arith, All, AllPairs, Contains, slice_get, cases_eq, cases_lt, get_or-take, length-take-le, All-append, All-contains, Contains-append_left, Contains-append_right, Contains-get_or, AllPairs-cons, get_or_from_slice_get, slice_get-get_or, slice_get_within, IsBefore, Function, Rule, Contains-take, Match, MatchesAmong, IsMatchAmong, ComesBefore, AreMatches, AreMatchesAmong, AreMatchesWhere, Knowledge}
 
 pub pairs_first : {X : Type 0} (R : X → X → Type 0) (x : X) (xs : List X) → AllPairs R (x ∷ xs) → All (R x) xs
 pairs_first R x xs h k d lt = h 0 (suc k) d (omega arith) (omega arith)
@@ -31,7 +31,7 @@ not_after b k i c l j first later = elim first [
 pub not_both : (m n : Match) → ComesBefore m n → ComesBefore n m → ⊥
 not_both m n = not_after m.binding.block m.binding.place m.rule n.binding.block n.binding.place n.rule
 
-module _ {Before : ℕ → ℕ → Type 0} {known : Knowledge} (rules : List Rule) (f : Function) where
+module _ {Before : ℕ → ℕ → ℕ → ℕ → Type 0} {known : Knowledge} (rules : List Rule) (f : Function) where
   -- where no rule matches
   pub none_where : (P : Match → Type 0) → ((m : Match) → MatchesAmong Before known rules f m → ¬ P m) → AreMatchesAmong Before known rules f P []
   none_where P never = record {
@@ -134,7 +134,7 @@ module _ {Before : ℕ → ℕ → Type 0} {known : Knowledge} (rules : List Rul
     }
 
 -- all matches with a property, where every match has it
-pub everywhere : (rules : List Rule) (f : Function) (P : Match → Type 0) (xs : List Match) → AreMatchesWhere rules f P xs → ((m : Match) → IsMatchAmong rules f m → P m) → AreMatches rules f xs
+pub everywhere : {across : Bool} (rules : List Rule) (f : Function) (P : Match → Type 0) (xs : List Match) → AreMatchesWhere across rules f P xs → ((m : Match) → IsMatchAmong across rules f m → P m) → AreMatches across rules f xs
 everywhere rules f P xs found all = record {
   each = λ k d lt. (found.each k d lt).0;
   all = λ m is. found.all m is (all m is);

@@ -1,5 +1,5 @@
 -- Two lists of the same matches in order are equal.
-use Rattle.rule_matches.proofs.Common.{◌≡◌, ◌⊎◌, inl, inr, ℕ, zero, suc, List, [], ◌∷◌, ◌++◌, take, drop, Some, refl, sym, ap, subst, ◌∙◌, arith, AllPairs, Contains, slice_get, All-contains, same_Some, slice_get-get_or, Function, Rule, Match, AreMatchesWhere, ComesBefore, IsMatchAmong, MatchesBeforeStandFirst}
+use Rattle.rule_matches.proofs.Common.{◌≡◌, ◌⊎◌, inl, inr, ℕ, zero, suc, Bool, List, [], ◌∷◌, ◌++◌, take, drop, Some, refl, sym, ap, subst, ◌∙◌, arith, AllPairs, Contains, slice_get, All-contains, same_Some, slice_get-get_or, Function, Rule, Match, AreMatchesWhere, ComesBefore, IsMatchAmong, MatchesBeforeStandFirst}
 use Rattle.rule_matches.proofs.Joining.{before_chosen, not_both, pairs_first, pairs_later, same_where}
 
 -- an element is the first, or one of the others
@@ -53,17 +53,17 @@ split_there [] k x at = absurd cc
 split_there (y ∷ xs) zero x at = ap (λ z. z ∷ xs) (sym (same_Some y x at))
 split_there (y ∷ xs) (suc k) x at = ap (λ l. y ∷ l) (split_there xs k x at)
 
-among : (rules : List Rule) (f : Function) (P : Match → Type 0) (xs ys : List Match) → AreMatchesWhere rules f P xs → AreMatchesWhere rules f P ys
+among : (across : Bool) (rules : List Rule) (f : Function) (P : Match → Type 0) (xs ys : List Match) → AreMatchesWhere across rules f P xs → AreMatchesWhere across rules f P ys
     → (m : Match) → Contains xs m → Contains ys m
-among rules f P xs ys first later m has = (let h = All-contains (λ n. IsMatchAmong rules f n × P n) xs m first.each has in later.all m h.0 h.1)
+among across rules f P xs ys first later m has = (let h = All-contains (λ n. IsMatchAmong across rules f n × P n) xs m first.each has in later.all m h.0 h.1)
 
 pub before_stand_first : MatchesBeforeStandFirst
-before_stand_first rules f chosen passed all is before are =
+before_stand_first across rules f chosen passed all is before are =
     let (k, within, is_there) = are.all chosen is in
     let at : slice_get all k ≡ Some chosen = slice_get-get_or all k chosen within ∙ ap Some is_there in
-    let anywhere : AreMatchesWhere rules f (λ m. Unit {0}) all = record { each = λ i d lt. (are.each i d lt, tt); all = λ m is_m of. are.all m is_m; in_order = are.in_order } in
-    let first : AreMatchesWhere rules f (λ m. ComesBefore m chosen) (take k all) =
+    let anywhere : AreMatchesWhere across rules f (λ m. Unit {0}) all = record { each = λ i d lt. (are.each i d lt, tt); all = λ m is_m of. are.all m is_m; in_order = are.in_order } in
+    let first : AreMatchesWhere across rules f (λ m. ComesBefore m chosen) (take k all) =
     same_where rules f (λ m. Unit {0} × ComesBefore m chosen) (λ m. ComesBefore m chosen) (take k all) (before_chosen rules f (λ m. Unit {0}) all k chosen at anywhere) (λ m is_m h. (tt, h)) (λ m h. h.1) in
     let same : take k all ≡ passed = one_list (take k all) passed first.in_order before.in_order
-    (among rules f (λ m. ComesBefore m chosen) (take k all) passed first before) (among rules f (λ m. ComesBefore m chosen) passed (take k all) before first) in
+    (among across rules f (λ m. ComesBefore m chosen) (take k all) passed first before) (among across rules f (λ m. ComesBefore m chosen) passed (take k all) before first) in
     (drop (suc k) all, sym (split_there all k chosen at) ∙ ap (λ (l : List Match). l ++ chosen ∷ drop (suc k) all) same)

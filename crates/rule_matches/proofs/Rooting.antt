@@ -24,7 +24,7 @@ pub record RootStands (rules : List Rule) (f : Function) (m : Match) : Type 0 wh
   pub of_inst : kind_of_inst inst.op ≡ Some kind
   pub of_rule : HasRootKind rules kind m.rule
 
-pub root_stands : {Before : ℕ → ℕ → Type 0} {known : Knowledge} (rules : List Rule) (f : Function) (m : Match) → AreReady rules → MatchesAmong Before known rules f m → RootStands rules f m
+pub root_stands : {Before : ℕ → ℕ → ℕ → ℕ → Type 0} {known : Knowledge} (rules : List Rule) (f : Function) (m : Match) → AreReady rules → MatchesAmong Before known rules f m → RootStands rules f m
 root_stands rules f m ready is = by (length is.rule.source - 1) (let some : 0 < length is.rule.source = (ready m.rule is.rule is.is_rule).checks.source_root in omega (arith, some)) refl
   where
     by : (j : ℕ) → suc j ≡ length is.rule.source → j ≡ length is.rule.source - 1 → RootStands rules f m
@@ -33,12 +33,12 @@ root_stands rules f m ready is = by (length is.rule.source - 1) (let some : 0 < 
         let last : (s : Statement) × (slice_get rule.source j ≡ Some s) = some_at rule.source j (omega (arith, is_last)) in
         let s = last.0 in
         let bound : StatementMatches f rule m.binding j s = is.matches.statements j s last.1 in
-        let there : bound.place ≡ m.binding.place = bound.matches.root is_last in
+        let there = bound.matches.root is_last in
         let same : (kind : RootKind) × (kind_of_statement s.op ≡ Some kind) × (kind_of_inst bound.inst.op ≡ Some kind) = kind_same s.op bound.inst.op bound.matches.operation in
         let root : kind_of_root rule ≡ kind_of_statement s.op = ap (λ (k : ℕ). option_and_then (λ (x : Statement). kind_of_statement x.op) (slice_get rule.source k)) (sym same_place) ∙ ap (option_and_then (λ (x : Statement). kind_of_statement x.op)) last.1 in
         record {
           inst = bound.inst;
-          is_inst = subst (λ (k : ℕ). IsInst f m.binding.block k bound.inst) there bound.is_inst;
+          is_inst = subst (λ (k : ℕ). IsInst f m.binding.block k bound.inst) there.1 (subst (λ (d : ℕ). IsInst f d bound.place bound.inst) there.0 bound.is_inst);
           kind = same.0;
           of_inst = same.2;
           of_rule = (rule, is.is_rule, root ∙ same.1);

@@ -25,6 +25,8 @@ use std::alloc::{AllocError, Global};
 pub struct Rules<'a> {
     pub all: &'a [Rule],
     pub by_root: &'a RulesByRoot,
+    /// Whether what a rule matches may stand in several blocks.
+    pub across: bool,
 }
 
 /// All matches of the rules at an instruction, in the order of the rules. What is known of the results before it in its
@@ -48,14 +50,14 @@ pub fn matches_at(
     requires by_root { AreByRoot rules.now.all.now rules.now.by_root.now }
     requires place { HasInst f.now block place }
     requires known { AskBits rules.now.all.now → (x : Named) → known_by known.now block place x ≡ known_in f.now block place x }
-    ensures { IfOk result (AreMatchesWhere rules.now.all.now f.now (IsAt block place)) }
+    ensures { IfOk result (AreMatchesWhere rules.now.across rules.now.all.now f.now (IsAt block place)) }
 {
     temporaries_stand_before_roots();
     matches_in_any_order(alloc, f, facts, known, rules, block, place)
 }
 
-/// The same without regard to the order of instructions in the block, as in the arena of a draft, and by what is known of
-/// its results, whatever that is.
+/// The same without regard to the order of instructions, as in the arena of a draft, and by what is known of the
+/// results of the block, whatever that is.
 pub fn matches_in_any_order(
     alloc: Global,
     f: &Function,
@@ -71,12 +73,12 @@ pub fn matches_in_any_order(
     requires ready { AreReady rules.now.all.now }
     requires by_root { AreByRoot rules.now.all.now rules.now.by_root.now }
     requires place { HasInst f.now block place }
-    ensures { IfOk result (AreMatchesInAnyOrder (known_by known.now) rules.now.all.now f.now (IsAt block place)) }
+    ensures { IfOk result (AreMatchesInAnyOrder rules.now.across (known_by known.now) rules.now.all.now f.now (IsAt block place)) }
 {
     let inst = inst_at(f, block, place);
     let mut found = List::new(alloc);
     for rule in rules.by_root.at(&inst.op) {
-        let matched = match_of(alloc, f, facts, known, rules.all, block, place, *rule)?;
+        let matched = match_of(alloc, f, facts, known, rules, block, place, *rule)?;
         push_if_any(&mut found, matched)?;
     }
     Ok(found)
@@ -97,7 +99,7 @@ fn match_of(
     f: &Function,
     facts: &FunctionFacts,
     known: &Facts,
-    rules: &[Rule],
+    rules: &Rules<'_>,
     block: u32,
     place: u32,
     rule: u32,
@@ -105,13 +107,14 @@ fn match_of(
     requires insts { All (λ b. length b.insts < 2 ^ 32) f.now.blocks }
     requires facts { AreFactsOf f.now facts.now }
     requires few { All (λ bits. length bits ≤ 64) known.now.results }
-    requires ready { AreReady rules.now }
+    requires ready { AreReady rules.now.all.now }
     requires place { HasInst f.now block place }
-    requires rule { rule < length rules.now }
-    ensures { IfOk result (λ matched. AreMatchesInAnyOrder (known_by known.now) rules.now f.now (IsOf block place rule) (option_to_list matched)) }
+    requires rule { rule < length rules.now.all.now }
+    ensures { IfOk result (λ matched. AreMatchesInAnyOrder rules.now.across (known_by known.now) rules.now.all.now f.now (IsOf block place rule) (option_to_list matched)) }
 {
-    let tried = &rules[rule as usize];
-    let Some(binding) = match_in(alloc, f, facts, known, block, place, tried)? else {
+    let tried = &rules.all[rule as usize];
+    let matched = match_in(alloc, f, facts, known, block, place, tried, rules.across)?;
+    let Some(binding) = matched else {
         return Ok(None);
     };
     Ok(Some(Match { rule, binding }))

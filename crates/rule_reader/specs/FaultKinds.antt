@@ -72,8 +72,8 @@ ArgumentIsBound raw place (raw_arguments.Constant name) = IsConstant raw.source 
 ArgumentIsBound raw place (raw_arguments.Term t) = TermIsBound raw place t
 ArgumentIsBound raw place argument = Unit {0}
 
--- and what a node of a formula names; one use is asked of a temporary of the source, and bits are known of an input or a
--- temporary
+-- and what a node of a formula names; one use is asked of a temporary of the source, and bits are known of an input or
+-- a temporary
 abbrev pub FormulaIsBound : RawRule → RawFormula → Type 0
 FormulaIsBound raw (raw_formulas.Compare pred a b) = TermIsBound raw places.Heading a × TermIsBound raw places.Heading b
 FormulaIsBound raw (raw_formulas.IsPowerOfTwo a) = TermIsBound raw places.Heading a

@@ -1,22 +1,22 @@
 -- A search skips places where all matches are known to be turned down.
-use Rattle.strategy.proofs.Common.{◌≡◌, ◌⊎◌, inl, inr, ℕ, zero, suc, ◌+◌, ◌-◌, ◌<◌, ◌≤◌, false, List, length, refl, subst, arith, cases_lt, end_of, Function, Rule, IsAt, AreReady, Verdicts, AsksAll, IsAnywhere, IsPast, past_all, past_block, past_place}
+use Rattle.strategy.proofs.Common.{◌≡◌, ◌⊎◌, inl, inr, ℕ, zero, suc, ◌+◌, ◌-◌, ◌<◌, ◌≤◌, Bool, false, List, length, refl, subst, arith, cases_lt, end_of, Function, Rule, IsAt, AreReady, Verdicts, AsksAll, IsAnywhere, IsPast, past_all, past_block, past_place}
 
 -- place j of block c comes before place k of block b
 abbrev pub IsPlaceBefore : ℕ → ℕ → ℕ → ℕ → Type 0
 IsPlaceBefore c j b k = (c < b) ⊎ ((c ≡ b) × (j < k))
 
-module _ (rules : List Rule) (conflicts : ℕ) (f : Function) (ready : AreReady rules) (u v : Verdicts) where
+module _ (across : Bool) (rules : List Rule) (conflicts : ℕ) (f : Function) (ready : AreReady rules) (u v : Verdicts) where
   -- all matches at the place are known to be turned down; below, the verdicts of all before a place are asked
   abbrev pub WereTurnedDown : ℕ → ℕ → Type 0
-  WereTurnedDown c j = AsksAll rules conflicts f (IsAt c j) v v false
+  WereTurnedDown c j = AsksAll across rules conflicts f (IsAt c j) v v false
 
   abbrev pub AskedTo : ℕ → ℕ → Type 0
-  AskedTo b k = AsksAll rules conflicts f (IsPast b k) u v false
+  AskedTo b k = AsksAll across rules conflicts f (IsPast b k) u v false
 
   along_block : (n b k : ℕ) → ((j : ℕ) → j < k + n → WereTurnedDown b j) → AskedTo b k → AskedTo b (k + n)
   along_block zero b k down asked = (let same : k ≡ k + 0 = omega arith in subst (AskedTo b) same asked)
   along_block (suc n) b k down asked =
-      let next : AskedTo b (k + 1) = past_place rules conflicts f b k u v v asked (down k (omega arith)) in
+      let next : AskedTo b (k + 1) = past_place across rules conflicts f b k u v v asked (down k (omega arith)) in
       let same : k + 1 + n ≡ k + suc n = omega arith in
       subst (AskedTo b) same (along_block n b (k + 1) (λ j less. down j (omega (arith, less))) next)
 
@@ -25,8 +25,8 @@ module _ (rules : List Rule) (conflicts : ℕ) (f : Function) (ready : AreReady 
     | inl less ↦
         let n : ℕ = end_of f b - k in
         let end : end_of f b ≡ k + n = omega (arith, less) in
-        past_block rules conflicts f b (k + n) u v ready (omega (arith, end)) (along_block n b k (λ j within. down j (omega (arith, within, end))) asked)
-    | inr late ↦ past_block rules conflicts f b k u v ready late asked
+        past_block across rules conflicts f b (k + n) u v ready (omega (arith, end)) (along_block n b k (λ j within. down j (omega (arith, within, end))) asked)
+    | inr late ↦ past_block across rules conflicts f b k u v ready late asked
   ]
 
   along_blocks : (n b k : ℕ) → ((c j : ℕ) → c < b + suc n → j < end_of f c → WereTurnedDown c j) → AskedTo b k → AskedTo (b + suc n) 0
@@ -56,11 +56,11 @@ module _ (rules : List Rule) (conflicts : ℕ) (f : Function) (ready : AreReady 
   ]
 
   -- the search goes on to the end of the function
-  pub come_through : (b k : ℕ) → ((c j : ℕ) → j < end_of f c → WereTurnedDown c j) → AskedTo b k → AsksAll rules conflicts f IsAnywhere u v false
+  pub come_through : (b k : ℕ) → ((c j : ℕ) → j < end_of f c → WereTurnedDown c j) → AskedTo b k → AsksAll across rules conflicts f IsAnywhere u v false
   come_through b k down asked = elim (cases_lt b (length f.blocks)) [
-    | inr late ↦ past_all rules conflicts f b k u v ready late asked
+    | inr late ↦ past_all across rules conflicts f b k u v ready late asked
     | inl less ↦
         let n : ℕ = length f.blocks - suc b in
         let there : b + suc n ≡ length f.blocks = omega (arith, less) in
-        past_all rules conflicts f (b + suc n) 0 u v ready (omega (arith, there)) (along_blocks n b k (λ c j before within. down c j within) asked)
+        past_all across rules conflicts f (b + suc n) 0 u v ready (omega (arith, there)) (along_blocks n b k (λ c j before within. down c j within) asked)
   ]

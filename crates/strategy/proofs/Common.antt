@@ -2,9 +2,9 @@
 pub use Rattle.std.proofs.Common.{All, Any, Bool, Contains, List, MatchBool, None, OnOk, Option, Some, [], ap, append-nil, append_assoc, arith, false, get_or, if◌then◌else◌, inl, inr, length, map, not, option_and_then, option_map, refl, slice_get, subst, suc, sym, take, true, zero, ℕ, ◌&&◌, ◌*◌, ◌++◌, ◌+◌, ◌-◌, ◌<◌, ◌==◌, ◌^◌, ◌↔◌, ◌∙◌, ◌∷◌, ◌≡◌, ◌≤◌, ◌⊎◌}
 pub use Rattle.bindings.proofs.Reading.{reads_at_inst}
 pub use Rattle.bindings.specs.Facts.{AreFactsOf}
-pub use Rattle.bindings.specs.Match.{IsMatch}
+pub use Rattle.bindings.specs.Match.{MatchesWhere}
 pub use Rattle.bindings.specs.Known.{AskBits, AsksBitsOf, Knowledge, known_by}
-pub use Rattle.bindings.specs.Matches.{AreMatches, AreMatchesInAnyOrder, AreMatchesWhere, ComesBefore, IsAt, IsMatchAmong, IsMatchInAnyOrder}
+pub use Rattle.bindings.specs.Matches.{AreMatches, AreMatchesInAnyOrder, AreMatchesWhere, ComesBefore, IsAt, IsMatchAmong, IsMatchInAnyOrder, MatchesAmong}
 pub use Rattle.bindings.specs.Ready.{AreReady}
 pub use Rattle.bindings.specs.declared.binding.Binding.{Binding}
 pub use Rattle.bindings.specs.declared.rule_match.Match.{Match}

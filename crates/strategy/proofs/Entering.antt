@@ -31,20 +31,20 @@ admitted_are_valid rules conflicts table honest row rule has admitted is =
     let valid : IsValid h.rule row.typing = subst (λ (v : Verdict). IsHonest h.rule row.typing conflicts v) admitted h.honest in
     subst (λ (r : Rule). IsValid r row.typing) (same_Some h.rule rule (sym h.is ∙ is)) valid
 
-module _ (fold : Bool) (rules : List Rule) where
+module _ (fold across : Bool) (rules : List Rule) where
   optimised_append : {table : List Row} {steps : ℕ} {old new old' new' : List Entry} {counts counts' : List ℕ} {limited limited' : List Bool} {asked asked' : List Pair}
-      → AreOptimised fold rules table steps old new counts limited asked → AreOptimised fold rules table steps old' new' counts' limited' asked'
-      → AreOptimised fold rules table steps (old ++ old') (new ++ new') (counts ++ counts') (limited ++ limited') (asked ++ asked')
+      → AreOptimised fold across rules table steps old new counts limited asked → AreOptimised fold across rules table steps old' new' counts' limited' asked'
+      → AreOptimised fold across rules table steps (old ++ old') (new ++ new') (counts ++ counts') (limited ++ limited') (asked ++ asked')
   optimised_append none later = later
   optimised_append {old' = old'} {new' = new'} {counts' = counts'} {limited' = limited'} {asked' = asked'} (kept line old new counts limited asked others) later =
       kept line (old ++ old') (new ++ new') (counts ++ counts') (limited ++ limited') (asked ++ asked') (optimised_append others later)
   optimised_append {table} {steps} {old' = old'} {new' = new'} {counts' = counts'} {limited' = limited'} {asked' = asked'} (function f last count is_limited asked old new counts limited rest one others) later =
-      subst (λ (l : List Pair). AreOptimised fold rules table steps (entries.Function f ∷ (old ++ old')) (entries.Function last ∷ (new ++ new')) (count ∷ (counts ++ counts')) (is_limited ∷ (limited ++ limited')) l)
+      subst (λ (l : List Pair). AreOptimised fold across rules table steps (entries.Function f ∷ (old ++ old')) (entries.Function last ∷ (new ++ new')) (count ∷ (counts ++ counts')) (is_limited ∷ (limited ++ limited')) l)
       (sym (append_assoc asked rest asked'))
       (function f last count is_limited asked (old ++ old') (new ++ new') (counts ++ counts') (limited ++ limited') (rest ++ asked') one (optimised_append others later))
 
   -- a kept line is copied
-  pub entry_kept : (conflicts steps : ℕ) (line : List ℕ) (now : Verdicts) (all : Counts) → OptimisesEntry fold rules conflicts steps (entries.Kept line) (entries.Kept line) now now all all
+  pub entry_kept : (conflicts steps : ℕ) (line : List ℕ) (now : Verdicts) (all : Counts) → OptimisesEntry fold across rules conflicts steps (entries.Kept line) (entries.Kept line) now now all all
   entry_kept conflicts steps line now all = record {
     pairs = [];
     counts = [];
@@ -57,9 +57,9 @@ module _ (fold : Bool) (rules : List Rule) where
 
   -- a function is replaced by what the strategy gives for it
   pub entry_optimised : (conflicts steps : ℕ) (f new : Function) (before after : Verdicts) (all all' : Counts) (count : ℕ) (is_limited : Bool)
-      → OptimisesFunction fold rules conflicts steps f new before after count is_limited
+      → OptimisesFunction fold across rules conflicts steps f new before after count is_limited
       → all'.counts ≡ all.counts ++ count ∷ [] → all'.limited ≡ all.limited ++ is_limited ∷ []
-      → OptimisesEntry fold rules conflicts steps (entries.Function f) (entries.Function new) before after all all'
+      → OptimisesEntry fold across rules conflicts steps (entries.Function f) (entries.Function new) before after all all'
   entry_optimised conflicts steps f new before after all all' count is_limited optimised counts_are limited_are = record {
     pairs = optimised.0 ++ [];
     counts = count ∷ [];
@@ -80,7 +80,7 @@ module _ (fold : Bool) (rules : List Rule) where
   }
 
   -- the loop: the strategy's results for the first entries
-  pub none_entered : (conflicts steps : ℕ) (before : Verdicts) (all : Counts) → OptimisesEntries fold rules conflicts steps [] [] before before all all
+  pub none_entered : (conflicts steps : ℕ) (before : Verdicts) (all : Counts) → OptimisesEntries fold across rules conflicts steps [] [] before before all all
   none_entered conflicts steps before all = record {
     pairs = [];
     counts = [];
@@ -92,18 +92,18 @@ module _ (fold : Bool) (rules : List Rule) where
   }
 
   pub one_entered : (conflicts steps place : ℕ) (old made : List Entry) (d e : Entry) (before now after : Verdicts) (first all all' : Counts)
-      → place < length old → OptimisesEntries fold rules conflicts steps (take place old) made before now first all
-      → OptimisesEntry fold rules conflicts steps (get_or old place d) e now after all all'
-      → OptimisesEntries fold rules conflicts steps (take (place + 1) old) (made ++ e ∷ []) before after first all'
+      → place < length old → OptimisesEntries fold across rules conflicts steps (take place old) made before now first all
+      → OptimisesEntry fold across rules conflicts steps (get_or old place d) e now after all all'
+      → OptimisesEntries fold across rules conflicts steps (take (place + 1) old) (made ++ e ∷ []) before after first all'
   one_entered conflicts steps place old made d e before now after first all all' within so_far one =
-      let stays = entries_stay fold rules now.table after.table (row_stays rules conflicts one.pairs now after one.asks) so_far.optimised in
+      let stays = entries_stay fold across rules now.table after.table (row_stays rules conflicts one.pairs now after one.asks) so_far.optimised in
       record {
         pairs = so_far.pairs ++ one.pairs;
         counts = so_far.counts ++ one.counts;
         limited = so_far.limited ++ one.limited;
         asks = asks_both rules conflicts so_far.pairs one.pairs before now after so_far.asks one.asks;
         optimised =
-            subst (λ (l : List Entry). AreOptimised fold rules after.table steps l (made ++ e ∷ []) (so_far.counts ++ one.counts) (so_far.limited ++ one.limited) (so_far.pairs ++ one.pairs))
+            subst (λ (l : List Entry). AreOptimised fold across rules after.table steps l (made ++ e ∷ []) (so_far.counts ++ one.counts) (so_far.limited ++ one.limited) (so_far.pairs ++ one.pairs))
             (sym (take_more old place d within)) (optimised_append stays one.optimised);
         counts_added = one.counts_added ∙ (ap (λ (l : List ℕ). l ++ one.counts) so_far.counts_added ∙ append_assoc first.counts so_far.counts one.counts);
         limited_added = one.limited_added ∙ (ap (λ (l : List Bool). l ++ one.limited) so_far.limited_added ∙ append_assoc first.limited so_far.limited one.limited);
@@ -111,15 +111,15 @@ module _ (fold : Bool) (rules : List Rule) where
 
   -- all entries are done: this is what the strategy gives, and the table is its own
   pub given : (conflicts steps : ℕ) (old new : Module) (before now : Verdicts) (first all : Counts) → first.counts ≡ [] → first.limited ≡ []
-      → AreVerdictsOn rules conflicts [] before → OptimisesEntries fold rules conflicts steps old.entries new.entries before now first all
-      → IsPlainStrategy fold rules steps now.table old new all.counts all.limited
+      → AreVerdictsOn rules conflicts [] before → OptimisesEntries fold across rules conflicts steps old.entries new.entries before now first all
+      → IsPlainStrategy fold across rules steps now.table old new all.counts all.limited
   given conflicts steps old new before now first all no_counts none_limited nothing made =
       let counts : all.counts ≡ made.counts = made.counts_added ∙ ap (λ (l : List ℕ). l ++ made.counts) no_counts in
       let limited : all.limited ≡ made.limited = made.limited_added ∙ ap (λ (l : List Bool). l ++ made.limited) none_limited in
       record {
         asked = made.pairs;
         entries =
-            subst (λ (l : List ℕ). AreOptimised fold rules now.table steps old.entries new.entries l all.limited made.pairs) (sym counts)
-            (subst (λ (l : List Bool). AreOptimised fold rules now.table steps old.entries new.entries made.counts l made.pairs) (sym limited) made.optimised);
+            subst (λ (l : List ℕ). AreOptimised fold across rules now.table steps old.entries new.entries l all.limited made.pairs) (sym counts)
+            (subst (λ (l : List Bool). AreOptimised fold across rules now.table steps old.entries new.entries made.counts l made.pairs) (sym limited) made.optimised);
         rows = (made.asks.asked [] nothing).rows;
       }

@@ -2,8 +2,8 @@
 use Rattle.strategy.proofs.Common.{◌≡◌, ℕ, ◌-◌, Bool, true, false, List, All, Any, Contains, MatchBool, Entry, Function, Rule, Row, Match, Pair, IsAdmitted, IsTurnedDown, admitted_stays, all_turned_down_stay, any_admitted_stays, IsStep, ComesOf, by_step, IsLastSearch, IsOptimised, AreOptimised, kept, function}
 use Rattle.strategy_core.specs.PlainStrategy.{itself, none}
 
-module _ (fold : Bool) (rules : List Rule) (table larger : List Row) (grows : (row : Row) → Contains table row → Contains larger row) where
-  pub step_stays : (f new : Function) (asked : List Pair) → IsStep fold rules table f new asked → IsStep fold rules larger f new asked
+module _ (fold across : Bool) (rules : List Rule) (table larger : List Row) (grows : (row : Row) → Contains table row → Contains larger row) where
+  pub step_stays : (f new : Function) (asked : List Pair) → IsStep fold across rules table f new asked → IsStep fold across rules larger f new asked
   step_stays f new asked s = record {
     chosen = s.chosen;
     is_match = s.is_match;
@@ -17,7 +17,7 @@ module _ (fold : Bool) (rules : List Rule) (table larger : List Row) (grows : (r
     is_tidied = s.is_tidied;
   }
 
-  pub steps_stay : {count : ℕ} {f g : Function} {asked : List Pair} → ComesOf fold rules table count f g asked → ComesOf fold rules larger count f g asked
+  pub steps_stay : {count : ℕ} {f g : Function} {asked : List Pair} → ComesOf fold across rules table count f g asked → ComesOf fold across rules larger count f g asked
   steps_stay (itself f) = itself f
   steps_stay (by_step count f g h asked more comes step) = by_step count f g h asked more (steps_stay comes) (step_stays g h more step)
 
@@ -26,11 +26,11 @@ module _ (fold : Bool) (rules : List Rule) (table larger : List Row) (grows : (r
   ends_stay left true ms h = (h.0, any_admitted_stays rules table larger grows ms h.1)
   ends_stay left false ms h = all_turned_down_stay rules table larger grows ms h
 
-  pub last_stays : (left : ℕ) (f : Function) (limited : Bool) (asked : List Pair) → IsLastSearch rules table left f limited asked → IsLastSearch rules larger left f limited asked
+  pub last_stays : (left : ℕ) (f : Function) (limited : Bool) (asked : List Pair) → IsLastSearch across rules table left f limited asked → IsLastSearch across rules larger left f limited asked
   last_stays left f limited asked s = record { matches = s.matches; are_matches = s.are_matches; asks = s.asks; ends = ends_stay left limited s.matches s.ends }
 
   pub optimised_stays : (steps : ℕ) (old new : Function) (count : ℕ) (limited : Bool) (asked : List Pair)
-      → IsOptimised fold rules table steps old new count limited asked → IsOptimised fold rules larger steps old new count limited asked
+      → IsOptimised fold across rules table steps old new count limited asked → IsOptimised fold across rules larger steps old new count limited asked
   optimised_stays steps old new count limited asked o = record {
     tidied = o.tidied;
     is_tidied = o.is_tidied;
@@ -43,7 +43,7 @@ module _ (fold : Bool) (rules : List Rule) (table larger : List Row) (grows : (r
   }
 
   pub entries_stay : {steps : ℕ} {old new : List Entry} {counts : List ℕ} {limited : List Bool} {asked : List Pair}
-      → AreOptimised fold rules table steps old new counts limited asked → AreOptimised fold rules larger steps old new counts limited asked
+      → AreOptimised fold across rules table steps old new counts limited asked → AreOptimised fold across rules larger steps old new counts limited asked
   entries_stay none = none
   entries_stay (kept line old new counts limited asked others) = kept line old new counts limited asked (entries_stay others)
   entries_stay {steps} (function f last count is_limited asked old new counts limited rest one others) =

@@ -14,11 +14,11 @@ still_may_ask rules limit pairs before after may asks = record {
   verdicts = still_verdicts rules.all.now limit pairs before after may.verdicts asks;
 }
 
-module _ (fold : Bool) (rules : List Rule) (conflicts : ℕ) where
+module _ (fold across : Bool) (rules : List Rule) (conflicts : ℕ) where
   -- the function is rewritten at the first admitted match, and tidied
   pub step_made : (f rewritten new : Function) (chosen : Match) (before after : Verdicts)
-      → (first : AsksUpTo rules conflicts f IsAnywhere before after chosen) → IsRewritten f chosen.binding first.is_match.rule rewritten → IsTidied fold rewritten new
-      → StepsOrEnds fold rules conflicts f new before after true
+      → (first : AsksUpTo across rules conflicts f IsAnywhere before after chosen) → IsRewritten f chosen.binding first.is_match.rule rewritten → IsTidied fold rewritten new
+      → StepsOrEnds fold across rules conflicts f new before after true
   step_made f rewritten new chosen before after first put tidied = (
     map pair_of (first.passed ++ chosen ∷ []),
     first.asks,
@@ -37,15 +37,15 @@ module _ (fold : Bool) (rules : List Rule) (conflicts : ℕ) where
   )
 
   -- the verdicts of all matches of the function were asked for
-  all_asked : (f : Function) (before after : Verdicts) (any : Bool) (all : AsksAll rules conflicts f IsAnywhere before after any) → AreMatches rules f all.matches
+  all_asked : (f : Function) (before after : Verdicts) (any : Bool) (all : AsksAll across rules conflicts f IsAnywhere before after any) → AreMatches across rules f all.matches
   all_asked f before after any all = everywhere rules f IsAnywhere all.matches all.are_matches (λ m is. tt)
 
   -- none of them is admitted
-  pub search_ended : (f : Function) (before after : Verdicts) → AsksAll rules conflicts f IsAnywhere before after false → StepsOrEnds fold rules conflicts f f before after false
+  pub search_ended : (f : Function) (before after : Verdicts) → AsksAll across rules conflicts f IsAnywhere before after false → StepsOrEnds fold across rules conflicts f f before after false
   search_ended f before after all =
       (map pair_of all.matches, all.asks, refl, λ left. record { matches = all.matches; are_matches = all_asked f before after false all; asks = refl; ends = all.answer })
 
-  pub step_countable : (steps : ℕ) (f new : Function) (table : List Row) (asked : List Pair) → AreReady rules → IsStep fold rules table f new asked
+  pub step_countable : (steps : ℕ) (f new : Function) (table : List Row) (asked : List Pair) → AreReady rules → IsStep fold across rules table f new asked
       → IsCountable (suc steps) f → IsCountable steps new
   step_countable steps f new table asked ready s c =
       let rule : Rule = s.is_match.rule in
@@ -56,7 +56,7 @@ module _ (fold : Bool) (rules : List Rule) (conflicts : ℕ) where
   pub record Along (steps count : ℕ) (tidied f : Function) (before now : Verdicts) : Type 0 where
     pub pairs : List Pair
     pub asks : Asks rules conflicts pairs before now
-    pub comes : ComesOf fold rules now.table count tidied f pairs
+    pub comes : ComesOf fold across rules now.table count tidied f pairs
     pub checks : MeetsChecks f
     pub numbers : NumbersFit f
     pub folded : HasNothingToFold fold f
@@ -67,7 +67,7 @@ module _ (fold : Bool) (rules : List Rule) (conflicts : ℕ) where
       record { pairs = []; asks = asks_nothing rules conflicts before; comes = itself tidied; checks = checks; numbers = numbers; folded = folded; countable = subst (λ (n : ℕ). IsCountable n tidied) (omega arith) countable }
 
   pub one_step_more : (steps count : ℕ) (tidied f new : Function) (before now after : Verdicts) → count < steps → AreReady rules
-      → Along steps count tidied f before now → StepsOrEnds fold rules conflicts f new now after true
+      → Along steps count tidied f before now → StepsOrEnds fold across rules conflicts f new now after true
       → MeetsChecks new → NumbersFit new → HasNothingToFold fold new → Along steps (count + 1) tidied new before after
   one_step_more steps count tidied f new before now after within ready along step checks numbers folded =
       let next : suc count ≡ count + 1 = omega arith in
@@ -75,8 +75,8 @@ module _ (fold : Bool) (rules : List Rule) (conflicts : ℕ) where
       record {
         pairs = along.pairs ++ step.0;
         asks = asks_both rules conflicts along.pairs step.0 before now after along.asks step.1;
-        comes = subst (λ (n : ℕ). ComesOf fold rules after.table n tidied new (along.pairs ++ step.0)) next
-            (by_step count tidied f new along.pairs step.0 (steps_stay fold rules now.table after.table (row_stays rules conflicts step.0 now after step.1) along.comes) step.2);
+        comes = subst (λ (n : ℕ). ComesOf fold across rules after.table n tidied new (along.pairs ++ step.0)) next
+            (by_step count tidied f new along.pairs step.0 (steps_stay fold across rules now.table after.table (row_stays rules conflicts step.0 now after step.1) along.comes) step.2);
         checks = checks;
         numbers = numbers;
         folded = folded;
@@ -86,8 +86,8 @@ module _ (fold : Bool) (rules : List Rule) (conflicts : ℕ) where
   -- the last search was made
   pub all_searched : (steps count : ℕ) (old tidied f : Function) (before now after : Verdicts) (limited : Bool) (pairs : List Pair)
       → IsTidied fold old tidied → count ≤ steps → Along steps count tidied f before now
-      → Asks rules conflicts pairs now after → IsLastSearch rules after.table (steps - count) f limited pairs
-      → OptimisesFunction fold rules conflicts steps old f before after count limited
+      → Asks rules conflicts pairs now after → IsLastSearch across rules after.table (steps - count) f limited pairs
+      → OptimisesFunction fold across rules conflicts steps old f before after count limited
   all_searched steps count old tidied f before now after limited pairs is_tidied within along asks last = (
     along.pairs ++ pairs,
     asks_both rules conflicts along.pairs pairs before now after along.asks asks,
@@ -95,7 +95,7 @@ module _ (fold : Bool) (rules : List Rule) (conflicts : ℕ) where
       tidied = tidied;
       is_tidied = is_tidied;
       in_steps = along.pairs;
-      comes = steps_stay fold rules now.table after.table (row_stays rules conflicts pairs now after asks) along.comes;
+      comes = steps_stay fold across rules now.table after.table (row_stays rules conflicts pairs now after asks) along.comes;
       within = within;
       at_last = pairs;
       last = last;
@@ -104,8 +104,8 @@ module _ (fold : Bool) (rules : List Rule) (conflicts : ℕ) where
   )
 
   -- no step is left
-  pub at_the_limit : (f : Function) (before after : Verdicts) (limited : Bool) (left : ℕ) → left ≡ 0 → (all : AsksAll rules conflicts f IsAnywhere before after limited)
-      → IsLastSearch rules after.table left f limited (map pair_of all.matches)
+  pub at_the_limit : (f : Function) (before after : Verdicts) (limited : Bool) (left : ℕ) → left ≡ 0 → (all : AsksAll across rules conflicts f IsAnywhere before after limited)
+      → IsLastSearch across rules after.table left f limited (map pair_of all.matches)
   at_the_limit f before after limited left none all = record { matches = all.matches; are_matches = all_asked f before after limited all; asks = refl; ends = by limited all.answer }
     where
       by : (limited : Bool) → MatchBool limited (Any (IsAdmitted after.table) all.matches) (All (IsTurnedDown after.table) all.matches)
@@ -115,18 +115,18 @@ module _ (fold : Bool) (rules : List Rule) (conflicts : ℕ) where
 
   -- what is given for the function where its steps are spent
   pub spent : (steps count : ℕ) (tidied f last : Function) (before now after : Verdicts) (limited : Bool) → Along steps steps tidied f before now → last ≡ f → count ≡ steps
-      → AsksAll rules conflicts f IsAnywhere now after limited → OptimisesTidied fold rules conflicts steps tidied last before after count limited
+      → AsksAll across rules conflicts f IsAnywhere now after limited → OptimisesTidied fold across rules conflicts steps tidied last before after count limited
   spent steps count tidied f last before now after limited along same all_made asks old is_tidied =
-      let made : OptimisesFunction fold rules conflicts steps old f before after steps limited =
+      let made : OptimisesFunction fold across rules conflicts steps old f before after steps limited =
       all_searched steps steps old tidied f before now after limited (map pair_of asks.matches) is_tidied (omega arith) along asks.asks
       (at_the_limit f now after limited (steps - steps) (omega arith) asks) in
-      subst (λ (g : Function). OptimisesFunction fold rules conflicts steps old g before after count limited) (sym same)
-      (subst (λ (n : ℕ). OptimisesFunction fold rules conflicts steps old f before after n limited) (sym all_made) made)
+      subst (λ (g : Function). OptimisesFunction fold across rules conflicts steps old g before after count limited) (sym same)
+      (subst (λ (n : ℕ). OptimisesFunction fold across rules conflicts steps old f before after n limited) (sym all_made) made)
 
   -- what is given where a search finds no admitted match
   pub ended : (steps count : ℕ) (tidied f g last : Function) (before now after : Verdicts) → count ≤ steps → Along steps count tidied f before now → last ≡ g
-      → StepsOrEnds fold rules conflicts f g now after false → OptimisesTidied fold rules conflicts steps tidied last before after count false
+      → StepsOrEnds fold across rules conflicts f g now after false → OptimisesTidied fold across rules conflicts steps tidied last before after count false
   ended steps count tidied f g last before now after within along same end old is_tidied =
-      let made : OptimisesFunction fold rules conflicts steps old f before after count false =
+      let made : OptimisesFunction fold across rules conflicts steps old f before after count false =
       all_searched steps count old tidied f before now after false end.0 is_tidied within along end.1 (end.3 (steps - count)) in
-      subst (λ (h : Function). OptimisesFunction fold rules conflicts steps old h before after count false) (sym (same ∙ end.2)) made
+      subst (λ (h : Function). OptimisesFunction fold across rules conflicts steps old h before after count false) (sym (same ∙ end.2)) made

@@ -23,16 +23,16 @@ EntriesAreReady steps entries = (place : ℕ) (e : Entry) → slice_get entries 
 
 -- The strategy gives the new entries for the old ones. For each that is a function its count of rewrites is appended,
 -- and whether it is limited.
-pub record OptimisesEntries (fold : Bool) (rules : List Rule) (conflicts steps : ℕ) (old new : List Entry) (before after : Verdicts) (all all' : Counts) : Type 0 where
+pub record OptimisesEntries (fold across : Bool) (rules : List Rule) (conflicts steps : ℕ) (old new : List Entry) (before after : Verdicts) (all all' : Counts) : Type 0 where
   pub pairs : List Pair
   pub counts : List ℕ
   pub limited : List Bool
   pub asks : Asks rules conflicts pairs before after
-  pub optimised : AreOptimised fold rules after.table steps old new counts limited pairs
+  pub optimised : AreOptimised fold across rules after.table steps old new counts limited pairs
   pub counts_added : all'.counts ≡ all.counts ++ counts
   pub limited_added : all'.limited ≡ all.limited ++ limited
 
 -- the same for one entry
-abbrev pub OptimisesEntry : Bool → List Rule → ℕ → ℕ → Entry → Entry → Verdicts → Verdicts → Counts → Counts → Type 0
-OptimisesEntry fold rules conflicts steps old new before after all all' =
-    OptimisesEntries fold rules conflicts steps (old ∷ []) (new ∷ []) before after all all'
+abbrev pub OptimisesEntry : Bool → Bool → List Rule → ℕ → ℕ → Entry → Entry → Verdicts → Verdicts → Counts → Counts → Type 0
+OptimisesEntry fold across rules conflicts steps old new before after all all' =
+    OptimisesEntries fold across rules conflicts steps (old ∷ []) (new ∷ []) before after all all'

@@ -27,16 +27,16 @@ use Rattle.strategy.specs.Folding.{IsRewrittenAt}
 use Rattle.strategy.specs.declared.frontier.Frontier.{Frontier}
 
 -- all matches at an instruction of the arena are turned down: the table has their verdicts, and none is `Admitted`
-pub record AreTurnedDownAt (rules : List Rule) (table : List Row) (known : Knowledge) (arena : Function) (b n : ℕ) : Type 0 where
+pub record AreTurnedDownAt (across : Bool) (rules : List Rule) (table : List Row) (known : Knowledge) (arena : Function) (b n : ℕ) : Type 0 where
   pub matches : List Match
-  pub are : AreMatchesInAnyOrder known rules arena (IsAt b n) matches
+  pub are : AreMatchesInAnyOrder across known rules arena (IsAt b n) matches
   pub turned_down : All (IsTurnedDown table) matches
 
 -- all matches are turned down at each instruction that still stands in the function, except at places on the worklist
 -- and those of `Out`
-abbrev pub AreTurnedDownBut : List Rule → List Row → (ℕ → ℕ → Type 0) → Draft → DraftBits → Rows → Type 0
-AreTurnedDownBut rules table Out d bits waiting =
-    (b n : ℕ) → Stands d b n → ¬ Has waiting b n → ¬ Out b n → AreTurnedDownAt rules table (known_by (facts_at bits b)) (arena_of d) b n
+abbrev pub AreTurnedDownBut : Bool → List Rule → List Row → (ℕ → ℕ → Type 0) → Draft → DraftBits → Rows → Type 0
+AreTurnedDownBut across rules table Out d bits waiting =
+    (b n : ℕ) → Stands d b n → ¬ Has waiting b n → ¬ Out b n → AreTurnedDownAt across rules table (known_by (facts_at bits b)) (arena_of d) b n
 
 abbrev pub Nowhere : ℕ → ℕ → Type 0
 Nowhere b n = ⊥
@@ -50,33 +50,33 @@ abbrev pub HasBitsFor : List Rule → Draft → DraftBits → Type 0
 HasBitsFor rules d bits = AreBitsOf d bits ⊎ (¬ AskBits rules × (bits.blocks.items ≡ []))
 
 -- between steps: at every place that is not on the worklist all matches are turned down
-pub record IsFrontier (rules : List Rule) (table : List Row) (frontier : Frontier) : Type 0 where
+pub record IsFrontier (across : Bool) (rules : List Rule) (table : List Row) (frontier : Frontier) : Type 0 where
   pub draft : IsSettled frontier.draft
   pub clean : HasNoDeadCode frontier.draft
   pub worklist : IsWorklistOf frontier.draft frontier.worklist
   pub depth : AreSourcesWithin frontier.depth rules
   pub bits : HasBitsFor rules frontier.draft frontier.bits
   pub few : HasFewBits frontier.bits
-  pub turned_down : AreTurnedDownBut rules table Nowhere frontier.draft frontier.bits (members_of frontier.worklist)
+  pub turned_down : AreTurnedDownBut across rules table Nowhere frontier.draft frontier.bits (members_of frontier.worklist)
 
 -- of the matches at an instruction of the arena the verdicts up to the first that is admitted are asked, or all, if
 -- none is
-abbrev pub AsksAt : List Rule → ℕ → Knowledge → Function → ℕ → ℕ → Verdicts → Verdicts → Option Match → Type 0
-AsksAt rules conflicts known arena b n old new found = (matches : List Match) × (place : Option ℕ) × AreMatchesInAnyOrder known rules arena (IsAt b n) matches
+abbrev pub AsksAt : Bool → List Rule → ℕ → Knowledge → Function → ℕ → ℕ → Verdicts → Verdicts → Option Match → Type 0
+AsksAt across rules conflicts known arena b n old new found = (matches : List Match) × (place : Option ℕ) × AreMatchesInAnyOrder across known rules arena (IsAt b n) matches
     × AsksToPlace rules conflicts matches old new place × (found ≡ option_and_then (slice_get matches) place)
 
 -- the same where the instruction still stands; where it was removed, nothing is asked
-abbrev pub LooksAt : List Rule → ℕ → Draft → Knowledge → Place → Verdicts → Verdicts → Option Match → Type 0
-LooksAt rules conflicts d known p old new found = (Stands d p.block p.number × AsksAt rules conflicts known (arena_of d) p.block p.number old new found)
+abbrev pub LooksAt : Bool → List Rule → ℕ → Draft → Knowledge → Place → Verdicts → Verdicts → Option Match → Type 0
+LooksAt across rules conflicts d known p old new found = (Stands d p.block p.number × AsksAt across rules conflicts known (arena_of d) p.block p.number old new found)
     ⊎ (¬ Stands d p.block p.number × (found ≡ None) × (new ≡ old))
 
 -- A search through the draft's function asks for verdicts up to the first match that is admitted, in order, or for all,
 -- if none is. Afterwards all matches are turned down, except at places on the worklist and at the match itself.
-abbrev pub SearchesTo : List Rule → ℕ → Draft → DraftBits → Rows → Verdicts → Verdicts → Option Match → Type 0
-SearchesTo rules conflicts d bits waiting old new None = AsksAll rules conflicts (function_of d) IsAnywhere old new false
-    × AreTurnedDownBut rules new.table Nowhere d bits waiting
-SearchesTo rules conflicts d bits waiting old new (Some chosen) = AsksUpTo rules conflicts (function_of d) IsAnywhere old new (placed_match d chosen)
-    × AreTurnedDownBut rules new.table (PlaceOf chosen) d bits waiting
+abbrev pub SearchesTo : Bool → List Rule → ℕ → Draft → DraftBits → Rows → Verdicts → Verdicts → Option Match → Type 0
+SearchesTo across rules conflicts d bits waiting old new None = AsksAll across rules conflicts (function_of d) IsAnywhere old new false
+    × AreTurnedDownBut across rules new.table Nowhere d bits waiting
+SearchesTo across rules conflicts d bits waiting old new (Some chosen) = AsksUpTo across rules conflicts (function_of d) IsAnywhere old new (placed_match d chosen)
+    × AreTurnedDownBut across rules new.table (PlaceOf chosen) d bits waiting
 
 -- the draft's function is rewritten at the match, and then tidied
 abbrev pub IsSteppedAt : Bool → List Rule → Draft → Draft → Match → Type 0

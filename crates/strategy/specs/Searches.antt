@@ -9,17 +9,17 @@ use Rattle.strategy_core.specs.PlainStrategy.{IsTidied, IsStep, IsLastSearch, Is
 
 -- Either a step is made; or no match is admitted, the function stays, and this was its last search, whatever number of
 -- steps is left.
-abbrev pub StepsOrEnds : Bool → List Rule → ℕ → Function → Function → Verdicts → Verdicts → Bool → Type 0
-StepsOrEnds fold rules conflicts f new old verdicts true = (pairs : List Pair) × Asks rules conflicts pairs old verdicts × IsStep fold rules verdicts.table f new pairs
-StepsOrEnds fold rules conflicts f new old verdicts false = (pairs : List Pair) × Asks rules conflicts pairs old verdicts × (new ≡ f)
-    × ((left : ℕ) → IsLastSearch rules verdicts.table left f false pairs)
+abbrev pub StepsOrEnds : Bool → Bool → List Rule → ℕ → Function → Function → Verdicts → Verdicts → Bool → Type 0
+StepsOrEnds fold across rules conflicts f new old verdicts true = (pairs : List Pair) × Asks rules conflicts pairs old verdicts × IsStep fold across rules verdicts.table f new pairs
+StepsOrEnds fold across rules conflicts f new old verdicts false = (pairs : List Pair) × Asks rules conflicts pairs old verdicts × (new ≡ f)
+    × ((left : ℕ) → IsLastSearch across rules verdicts.table left f false pairs)
 
 -- what becomes of a function within `steps` steps, and which pairs are asked for it
-abbrev pub OptimisesFunction : Bool → List Rule → ℕ → ℕ → Function → Function → Verdicts → Verdicts → ℕ → Bool → Type 0
-OptimisesFunction fold rules conflicts steps old new before after count limited =
-    (pairs : List Pair) × Asks rules conflicts pairs before after × IsOptimised fold rules after.table steps old new count limited pairs
+abbrev pub OptimisesFunction : Bool → Bool → List Rule → ℕ → ℕ → Function → Function → Verdicts → Verdicts → ℕ → Bool → Type 0
+OptimisesFunction fold across rules conflicts steps old new before after count limited =
+    (pairs : List Pair) × Asks rules conflicts pairs before after × IsOptimised fold across rules after.table steps old new count limited pairs
 
 -- the same for a function that is tidied already
-abbrev pub OptimisesTidied : Bool → List Rule → ℕ → ℕ → Function → Function → Verdicts → Verdicts → ℕ → Bool → Type 0
-OptimisesTidied fold rules conflicts steps tidied new before after count limited =
-    (old : Function) → IsTidied fold old tidied → OptimisesFunction fold rules conflicts steps old new before after count limited
+abbrev pub OptimisesTidied : Bool → Bool → List Rule → ℕ → ℕ → Function → Function → Verdicts → Verdicts → ℕ → Bool → Type 0
+OptimisesTidied fold across rules conflicts steps tidied new before after count limited =
+    (old : Function) → IsTidied fold old tidied → OptimisesFunction fold across rules conflicts steps old new before after count limited

@@ -1,6 +1,6 @@
 //! Which rewrites may give a branch or a switch a number, and what such a rewrite gives.
 
-ghost use Rattle.std.specs.Prelude.{◌≡◌, ℕ, suc, All, None, IfOk, IsFalse, IsTrue, slice_index_or};
+ghost use Rattle.std.specs.Prelude.{◌≡◌, ℕ, suc, Bool, All, None, IfOk, IsFalse, IsTrue, slice_index_or};
 ghost use Rattle.bindings.specs.Matches.{IsMatchAmong};
 ghost use Rattle.bindings.specs.Ready.{AreReady};
 ghost use Rattle.draft.specs.Drafts.{HasRoomFor, arena_of, function_of};
@@ -15,7 +15,7 @@ ghost use Rattle.readers.specs.Readers.{listed_for};
 ghost use Rattle.strategy.specs.Folding.{GivesNoNumber, IsPutAsNoNumber, IsRewrittenAt, KeepsChoices, PutsNoNumber};
 ghost use Rattle.strategy_core.specs.Countable.{IsCountable};
 
-use bindings::{Binding, Match, reads_of_a_block_stand_before};
+use bindings::{Binding, Match};
 use draft::Draft;
 use ir_core::{Function, Operand, Register};
 use places::{END, Place};
@@ -93,16 +93,15 @@ fn is_unread_at_ends(draft: &Draft, root: Place) -> bool
         .all(|place| place.number != END)
 }
 
-/// Whether a number may choose where a branch or a switch goes once the function is rewritten at the match. It may where
-/// the rule puts a number in the place of its root's register, and a terminator reads that.
+/// Whether a number may choose where a branch or a switch goes once the function is rewritten at the match. It may
+/// where the rule puts a number in the place of its root's register, and a terminator reads that.
 pub(crate) fn may_choose(draft: &Draft, rules: &[Rule], chosen: &Match) -> bool
     requires ready { AreReady rules.now }
     requires settled { IsSettled draft.now }
-    requires matches { IsMatchAmong rules.now (function_of draft.now) (placed_match draft.now chosen.now) }
+    requires matches { (across : Bool) × IsMatchAmong across rules.now (function_of draft.now) (placed_match draft.now chosen.now) }
     requires checks { MeetsChecks (function_of draft.now) }
     ensures { IsFalse result → KeepsChoices rules.now draft.now chosen.now }
 {
-    reads_of_a_block_stand_before();
     let rule = &rules[chosen.rule as usize];
     if !may_put_number(rule, &chosen.binding) {
         return false;
@@ -123,7 +122,7 @@ pub(crate) fn rewritten_at(
 ) -> Result<Function, AllocError>
     requires ready { AreReady rules.now }
     requires settled { IsSettled draft }
-    requires matches { IsMatchAmong rules.now (function_of draft) (placed_match draft chosen.now) }
+    requires matches { (across : Bool) × IsMatchAmong across rules.now (function_of draft) (placed_match draft chosen.now) }
     requires checks { MeetsChecks (function_of draft) }
     requires numbers { NumbersFit (function_of draft) }
     requires room { HasRoomFor 1 draft }

@@ -1,6 +1,6 @@
 //! What the strategy makes of one function, with a worklist of the places where an admitted match may be.
 
-ghost use Rattle.std.specs.Prelude.{◌≡◌, ◌<◌, ◌≤◌, ◌^◌, ℕ, suc, List as Seq, length, true, false, All, Contains, IfOk, OnOk};
+ghost use Rattle.std.specs.Prelude.{◌≡◌, ◌<◌, ◌≤◌, ◌^◌, ℕ, suc, Bool, List as Seq, length, true, false, All, Contains, IfOk, OnOk};
 ghost use Rattle.fold_branch.specs.Folded.{IsFolded};
 ghost use Rattle.ir_core.specs.Blocks.{HasInst};
 ghost use Rattle.ir_core.specs.Checks.{MeetsChecks};
@@ -70,7 +70,7 @@ pub(crate) fn optimise_function(
     requires numbers { NumbersFit f }
     requires countable { IsCountable options.steps f }
     requires asks { MayAsk rules.now options.conflicts verdicts.old }
-    ensures { IfOk result (λ made. OptimisesFunction options.fold rules.now.all.now options.conflicts options.steps f made.0 verdicts.old verdicts.new made.1.count made.1.limited) }
+    ensures { IfOk result (λ made. OptimisesFunction options.fold rules.now.across rules.now.all.now options.conflicts options.steps f made.0 verdicts.old verdicts.new made.1.count made.1.limited) }
 {
     let mut tidied = f;
     tidy_checked(alloc, &mut tidied, options.fold)?;
@@ -92,7 +92,7 @@ fn optimise_tidied(
     requires numbers { NumbersFit f }
     requires countable { IsCountable options.steps f }
     requires asks { MayAsk rules.now options.conflicts verdicts.old }
-    ensures { IfOk result (λ made. OptimisesTidied options.fold rules.now.all.now options.conflicts options.steps f made.0 verdicts.old verdicts.new made.1.count made.1.limited) }
+    ensures { IfOk result (λ made. OptimisesTidied options.fold rules.now.across rules.now.all.now options.conflicts options.steps f made.0 verdicts.old verdicts.new made.1.count made.1.limited) }
 {
     if options.steps == 0 {
         let made = search_last(alloc, f, rules, verdicts, options)?;
@@ -117,7 +117,7 @@ fn rewrite_tidied(
     requires numbers { NumbersFit f }
     requires countable { IsCountable options.steps f }
     requires asks { MayAsk rules.now options.conflicts verdicts.old }
-    ensures { IfOk result (λ made. OptimisesTidied options.fold rules.now.all.now options.conflicts options.steps f made.0 verdicts.old verdicts.new made.1.count made.1.limited) }
+    ensures { IfOk result (λ made. OptimisesTidied options.fold rules.now.across rules.now.all.now options.conflicts options.steps f made.0 verdicts.old verdicts.new made.1.count made.1.limited) }
 {
     let mut frontier = Frontier::of(alloc, f, rules.all)?;
     for count in 0..options.steps {
@@ -152,7 +152,7 @@ fn search_last(
     requires asks { MayAsk rules.now options.conflicts verdicts.old }
     ensures function { IfOk result (λ made. made.0 ≡ f) }
     ensures count { IfOk result (λ made. made.1.count ≡ options.steps) }
-    ensures asks { IfOk result (λ made. AsksAll rules.now.all.now options.conflicts f IsAnywhere verdicts.old verdicts.new made.1.limited) }
+    ensures asks { IfOk result (λ made. AsksAll rules.now.across rules.now.all.now options.conflicts f IsAnywhere verdicts.old verdicts.new made.1.limited) }
 {
     let limited = any_admitted(alloc, &f, rules, verdicts, options.conflicts)?;
     Ok((
@@ -171,7 +171,7 @@ impl Frontier {
         requires needed { AllNeeded f }
         requires blocks { length f.blocks < 2 ^ 32 }
         requires insts { All (λ b. length b.insts ≤ none) f.blocks }
-        ensures frontier { IfOk result (λ made. (table : Seq VerdictRow) → IsFrontier rules.now table made) }
+        ensures frontier { IfOk result (λ made. (across : Bool) (table : Seq VerdictRow) → IsFrontier across rules.now table made) }
         ensures function { IfOk result (λ made. function_of made.draft ≡ f) }
         ensures arena { IfOk result (λ made. arena_of made.draft ≡ f) }
     {
@@ -232,15 +232,15 @@ fn step(
     verdicts: &mut Verdicts,
     options: Options,
 ) -> Result<(bool, Frontier), AllocError>
-    requires frontier { IsFrontier rules.now.all.now verdicts.old.table frontier }
+    requires frontier { IsFrontier rules.now.across rules.now.all.now verdicts.old.table frontier }
     requires checks { MeetsChecks (function_of frontier.draft) }
     requires numbers { NumbersFit (function_of frontier.draft) }
     requires folded { HasNothingToFold options.fold (function_of frontier.draft) }
     requires room { HasRoomFor 1 frontier.draft }
     requires countable { IsCountable 1 (function_of frontier.draft) }
     requires asks { MayAsk rules.now options.conflicts verdicts.old }
-    ensures steps { IfOk result (λ made. StepsOrEnds options.fold rules.now.all.now options.conflicts (function_of frontier.draft) (function_of made.1.draft) verdicts.old verdicts.new made.0) }
-    ensures frontier { IfOk result (λ made. IsFrontier rules.now.all.now verdicts.new.table made.1) }
+    ensures steps { IfOk result (λ made. StepsOrEnds options.fold rules.now.across rules.now.all.now options.conflicts (function_of frontier.draft) (function_of made.1.draft) verdicts.old verdicts.new made.0) }
+    ensures frontier { IfOk result (λ made. IsFrontier rules.now.across rules.now.all.now verdicts.new.table made.1) }
     ensures checks { IfOk result (λ made. MeetsChecks (function_of made.1.draft)) }
     ensures numbers { IfOk result (λ made. NumbersFit (function_of made.1.draft)) }
     ensures folded { IfOk result (λ made. HasNothingToFold options.fold (function_of made.1.draft)) }
@@ -260,7 +260,7 @@ fn step(
     let Some(chosen) = found else {
         return Ok((false, frontier));
     };
-    let rewritten = rewrite_at(alloc, frontier, rules.all, &chosen, options.fold)?;
+    let rewritten = rewrite_at(alloc, frontier, rules, &chosen, options.fold)?;
     Ok((true, rewritten))
 }
 
@@ -281,11 +281,11 @@ fn next_admitted(
     requires bits { HasBitsFor rules.now.all.now draft.now bits.now }
     requires few { HasFewBits bits.now }
     requires worklist { IsWorklistOf draft.now worklist.old }
-    requires turned_down { AreTurnedDownBut rules.now.all.now verdicts.old.table Nowhere draft.now bits.now (members_of worklist.old) }
+    requires turned_down { AreTurnedDownBut rules.now.across rules.now.all.now verdicts.old.table Nowhere draft.now bits.now (members_of worklist.old) }
     requires checks { MeetsChecks (function_of draft.now) }
     requires asks { MayAsk rules.now conflicts verdicts.old }
     ensures worklist { OnOk result (IsWorklistOf draft.now worklist.new) }
-    ensures found { IfOk result (SearchesTo rules.now.all.now conflicts draft.now bits.now (members_of worklist.new) verdicts.old verdicts.new) }
+    ensures found { IfOk result (SearchesTo rules.now.across rules.now.all.now conflicts draft.now bits.now (members_of worklist.new) verdicts.old verdicts.new) }
 {
     matches_of_the_arena();
     draft_bits_are_known_bits();
@@ -320,7 +320,7 @@ fn look_at(
     requires place { HasInst (arena_of draft.now) place.block place.number }
     requires few { All (λ word. length word ≤ 64) known.now.results }
     requires asks { MayAsk rules.now conflicts verdicts.old }
-    ensures { IfOk result (LooksAt rules.now.all.now conflicts draft.now (known_by known.now) place verdicts.old verdicts.new) }
+    ensures { IfOk result (LooksAt rules.now.across rules.now.all.now conflicts draft.now (known_by known.now) place verdicts.old verdicts.new) }
 {
     if !draft.stands(place) {
         return Ok(None);
@@ -344,7 +344,7 @@ fn admitted_at(
     requires place { HasInst (arena_of draft.now) place.block place.number }
     requires few { All (λ word. length word ≤ 64) known.now.results }
     requires asks { MayAsk rules.now conflicts verdicts.old }
-    ensures { IfOk result (AsksAt rules.now.all.now conflicts (known_by known.now) (arena_of draft.now) place.block place.number verdicts.old verdicts.new) }
+    ensures { IfOk result (AsksAt rules.now.across rules.now.all.now conflicts (known_by known.now) (arena_of draft.now) place.block place.number verdicts.old verdicts.new) }
 {
     let found = matches_in_any_order(
         alloc,
@@ -367,28 +367,28 @@ fn admitted_at(
 fn rewrite_at(
     alloc: Global,
     frontier: Frontier,
-    rules: &[Rule],
+    rules: &Rules<'_>,
     chosen: &Match,
     folding: bool,
 ) -> Result<Frontier, AllocError>
-    requires ready { AreReady rules.now }
+    requires ready { AreReady rules.now.all.now }
     requires settled { IsSettled frontier.draft }
     requires clean { HasNoDeadCode frontier.draft }
     requires worklist { IsWorklistOf frontier.draft frontier.worklist }
-    requires depth { AreSourcesWithin frontier.depth rules.now }
-    requires bits { HasBitsFor rules.now frontier.draft frontier.bits }
+    requires depth { AreSourcesWithin frontier.depth rules.now.all.now }
+    requires bits { HasBitsFor rules.now.all.now frontier.draft frontier.bits }
     requires few { HasFewBits frontier.bits }
-    requires matches { IsMatchAmong rules.now (function_of frontier.draft) (placed_match frontier.draft chosen.now) }
+    requires matches { IsMatchAmong rules.now.across rules.now.all.now (function_of frontier.draft) (placed_match frontier.draft chosen.now) }
     requires checks { MeetsChecks (function_of frontier.draft) }
     requires numbers { NumbersFit (function_of frontier.draft) }
     requires folded { HasNothingToFold folding (function_of frontier.draft) }
     requires room { HasRoomFor 1 frontier.draft }
     requires countable { IsCountable 1 (function_of frontier.draft) }
-    ensures stepped { IfOk result (λ made. IsSteppedAt folding rules.now frontier.draft made.draft chosen.now) }
+    ensures stepped { IfOk result (λ made. IsSteppedAt folding rules.now.all.now frontier.draft made.draft chosen.now) }
 
     // At places that are not on the new worklist matches stay turned down, whatever the table is.
-    ensures frontier { IfOk result (λ made. (table : Seq VerdictRow) → AreTurnedDownBut rules.now table (PlaceOf chosen.now) frontier.draft frontier.bits (members_of frontier.worklist)
-        → IsFrontier rules.now table made) }
+    ensures frontier { IfOk result (λ made. (table : Seq VerdictRow) → AreTurnedDownBut rules.now.across rules.now.all.now table (PlaceOf chosen.now) frontier.draft frontier.bits (members_of frontier.worklist)
+        → IsFrontier rules.now.across rules.now.all.now table made) }
     ensures checks { IfOk result (λ made. MeetsChecks (function_of made.draft)) }
     ensures numbers { IfOk result (λ made. NumbersFit (function_of made.draft)) }
     ensures folded { IfOk result (λ made. HasNothingToFold folding (function_of made.draft)) }
@@ -412,27 +412,27 @@ fn rewrite_at(
 fn rewrite_and_fold(
     alloc: Global,
     frontier: Frontier,
-    rules: &[Rule],
+    rules: &Rules<'_>,
     chosen: &Match,
 ) -> Result<Frontier, AllocError>
-    requires ready { AreReady rules.now }
+    requires ready { AreReady rules.now.all.now }
     requires settled { IsSettled frontier.draft }
     requires clean { HasNoDeadCode frontier.draft }
     requires worklist { IsWorklistOf frontier.draft frontier.worklist }
-    requires depth { AreSourcesWithin frontier.depth rules.now }
-    requires bits { HasBitsFor rules.now frontier.draft frontier.bits }
+    requires depth { AreSourcesWithin frontier.depth rules.now.all.now }
+    requires bits { HasBitsFor rules.now.all.now frontier.draft frontier.bits }
     requires few { HasFewBits frontier.bits }
-    requires matches { IsMatchAmong rules.now (function_of frontier.draft) (placed_match frontier.draft chosen.now) }
+    requires matches { IsMatchAmong rules.now.across rules.now.all.now (function_of frontier.draft) (placed_match frontier.draft chosen.now) }
     requires checks { MeetsChecks (function_of frontier.draft) }
     requires numbers { NumbersFit (function_of frontier.draft) }
     requires folded { IsFolded (function_of frontier.draft) (function_of frontier.draft) }
     requires room { HasRoomFor 1 frontier.draft }
     requires countable { IsCountable 1 (function_of frontier.draft) }
-    ensures stepped { IfOk result (λ made. IsSteppedAt true rules.now frontier.draft made.draft chosen.now) }
+    ensures stepped { IfOk result (λ made. IsSteppedAt true rules.now.all.now frontier.draft made.draft chosen.now) }
 
     // At places that are not on the new worklist matches stay turned down, whatever the table is.
-    ensures frontier { IfOk result (λ made. (table : Seq VerdictRow) → AreTurnedDownBut rules.now table (PlaceOf chosen.now) frontier.draft frontier.bits (members_of frontier.worklist)
-        → IsFrontier rules.now table made) }
+    ensures frontier { IfOk result (λ made. (table : Seq VerdictRow) → AreTurnedDownBut rules.now.across rules.now.all.now table (PlaceOf chosen.now) frontier.draft frontier.bits (members_of frontier.worklist)
+        → IsFrontier rules.now.across rules.now.all.now table made) }
     ensures checks { IfOk result (λ made. MeetsChecks (function_of made.draft)) }
     ensures numbers { IfOk result (λ made. NumbersFit (function_of made.draft)) }
     ensures folded { IfOk result (λ made. IsFolded (function_of made.draft) (function_of made.draft)) }
@@ -440,7 +440,7 @@ fn rewrite_and_fold(
         → HasRoomFor steps made.draft) }
 {
     cleaning_keeps_functions_folded();
-    if may_choose(&frontier.draft, rules, chosen) {
+    if may_choose(&frontier.draft, rules.all, chosen) {
         let anew = begin_anew(alloc, frontier.draft, rules, chosen)?;
         return Ok(anew);
     }
@@ -452,26 +452,26 @@ fn rewrite_and_fold(
 fn begin_anew(
     alloc: Global,
     draft: Draft,
-    rules: &[Rule],
+    rules: &Rules<'_>,
     chosen: &Match,
 ) -> Result<Frontier, AllocError>
-    requires ready { AreReady rules.now }
+    requires ready { AreReady rules.now.all.now }
     requires settled { IsSettled draft }
-    requires matches { IsMatchAmong rules.now (function_of draft) (placed_match draft chosen.now) }
+    requires matches { IsMatchAmong rules.now.across rules.now.all.now (function_of draft) (placed_match draft chosen.now) }
     requires checks { MeetsChecks (function_of draft) }
     requires numbers { NumbersFit (function_of draft) }
     requires room { HasRoomFor 1 draft }
     requires countable { IsCountable 1 (function_of draft) }
-    ensures stepped { IfOk result (λ made. IsSteppedAt true rules.now draft made.draft chosen.now) }
-    ensures frontier { IfOk result (λ made. (table : Seq VerdictRow) → IsFrontier rules.now table made) }
+    ensures stepped { IfOk result (λ made. IsSteppedAt true rules.now.all.now draft made.draft chosen.now) }
+    ensures frontier { IfOk result (λ made. (table : Seq VerdictRow) → IsFrontier rules.now.across rules.now.all.now table made) }
     ensures checks { IfOk result (λ made. MeetsChecks (function_of made.draft)) }
     ensures numbers { IfOk result (λ made. NumbersFit (function_of made.draft)) }
     ensures folded { IfOk result (λ made. IsFolded (function_of made.draft) (function_of made.draft)) }
     ensures room { IfOk result (λ made. (steps : ℕ) → IsCountable (suc steps) (function_of draft) → HasRoomFor steps made.draft) }
 {
-    let mut f = rewritten_at(alloc, draft, rules, chosen)?;
+    let mut f = rewritten_at(alloc, draft, rules.all, chosen)?;
     tidy_checked(alloc, &mut f, true)?;
-    let made = Frontier::of(alloc, f, rules)?;
+    let made = Frontier::of(alloc, f, rules.all)?;
     Ok(made)
 }
 
@@ -480,25 +480,25 @@ fn begin_anew(
 fn rewrite_and_clean(
     alloc: Global,
     frontier: Frontier,
-    rules: &[Rule],
+    rules: &Rules<'_>,
     chosen: &Match,
 ) -> Result<Frontier, AllocError>
-    requires ready { AreReady rules.now }
+    requires ready { AreReady rules.now.all.now }
     requires settled { IsSettled frontier.draft }
     requires clean { HasNoDeadCode frontier.draft }
     requires worklist { IsWorklistOf frontier.draft frontier.worklist }
-    requires depth { AreSourcesWithin frontier.depth rules.now }
-    requires bits { HasBitsFor rules.now frontier.draft frontier.bits }
+    requires depth { AreSourcesWithin frontier.depth rules.now.all.now }
+    requires bits { HasBitsFor rules.now.all.now frontier.draft frontier.bits }
     requires few { HasFewBits frontier.bits }
-    requires matches { IsMatchAmong rules.now (function_of frontier.draft) (placed_match frontier.draft chosen.now) }
+    requires matches { IsMatchAmong rules.now.across rules.now.all.now (function_of frontier.draft) (placed_match frontier.draft chosen.now) }
     requires checks { MeetsChecks (function_of frontier.draft) }
     requires numbers { NumbersFit (function_of frontier.draft) }
     requires room { HasRoomFor 1 frontier.draft }
-    ensures stepped { IfOk result (λ made. IsSteppedAt false rules.now frontier.draft made.draft chosen.now) }
+    ensures stepped { IfOk result (λ made. IsSteppedAt false rules.now.all.now frontier.draft made.draft chosen.now) }
 
     // At places that are not on the new worklist matches stay turned down, whatever the table is.
-    ensures frontier { IfOk result (λ made. (table : Seq VerdictRow) → AreTurnedDownBut rules.now table (PlaceOf chosen.now) frontier.draft frontier.bits (members_of frontier.worklist)
-        → IsFrontier rules.now table made) }
+    ensures frontier { IfOk result (λ made. (table : Seq VerdictRow) → AreTurnedDownBut rules.now.across rules.now.all.now table (PlaceOf chosen.now) frontier.draft frontier.bits (members_of frontier.worklist)
+        → IsFrontier rules.now.across rules.now.all.now table made) }
     ensures checks { IfOk result (λ made. MeetsChecks (function_of made.draft)) }
     ensures numbers { IfOk result (λ made. NumbersFit (function_of made.draft)) }
     ensures room { IfOk result (λ made. (steps : ℕ) → HasRoomFor (suc steps) frontier.draft → HasRoomFor steps made.draft) }
@@ -511,9 +511,10 @@ fn rewrite_and_clean(
         worklist,
         depth,
     } = frontier;
-    let (rewritten, touched) = rewrite_draft(alloc, draft, rules, chosen)?;
+    let (rewritten, touched) = rewrite_draft(alloc, draft, rules.all, chosen)?;
     let (bits, changed) = update(alloc, bits, &rewritten, touched)?;
-    let (waiting, last) = worklist.insert_reaching(alloc, rewritten, changed.as_slice(), depth)?;
+    let places = changed.as_slice();
+    let (waiting, last) = worklist.insert_reaching(alloc, rewritten, places, depth, rules.across)?;
     Ok(Frontier {
         draft: last,
         bits,
@@ -532,7 +533,7 @@ fn rewrite_draft(
     requires ready { AreReady rules.now }
     requires settled { IsSettled draft }
     requires clean { HasNoDeadCode draft }
-    requires matches { IsMatchAmong rules.now (function_of draft) (placed_match draft chosen.now) }
+    requires matches { (across : Bool) × IsMatchAmong across rules.now (function_of draft) (placed_match draft chosen.now) }
     requires checks { MeetsChecks (function_of draft) }
     requires numbers { NumbersFit (function_of draft) }
     requires room { HasRoomFor 1 draft }

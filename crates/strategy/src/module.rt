@@ -55,7 +55,7 @@ pub fn optimise(
 
     // Blocks, and the instructions of each, are numbered in 32 bits; each step may add up to 31 instructions.
     requires countable { ModuleIsCountable options.now.steps module.now }
-    ensures strategy { IfOk result (λ done. IsPlainStrategy options.now.fold rules.now options.now.steps done.table module.now done.module done.counts done.limited) }
+    ensures strategy { IfOk result (λ done. IsPlainStrategy options.now.fold options.now.across rules.now options.now.steps done.table module.now done.module done.counts done.limited) }
     ensures honest { IfOk result (λ done. IsHonestTable rules.now options.now.conflicts done.table) }
 
     // Where a search ended as a `Budget`, the log that is stored for its pair does not refute its clauses.
@@ -63,7 +63,7 @@ pub fn optimise(
     ensures refines { IfOk result (λ done. ModuleRefines module.now done.module) }
     ensures checks { IfOk result (λ done. ModuleMeetsChecks done.module) }
     ensures numbers { IfOk result (λ done. ModuleNumbersFit done.module) }
-    ensures decided { IfOk result (λ done. MatchesAreDecided rules.now done.table done.module done.limited) }
+    ensures decided { IfOk result (λ done. MatchesAreDecided options.now.across rules.now done.table done.module done.limited) }
 {
     every_optimised_module_refines_the_old();
     every_match_left_is_decided();
@@ -71,6 +71,7 @@ pub fn optimise(
     let rules = Rules {
         all: rules,
         by_root: &by_root,
+        across: options.across,
     };
     let done = plain_strategy(alloc, module, &rules, logs, *options)?;
     Ok(done)
@@ -88,7 +89,7 @@ fn plain_strategy(
     requires ready { AreReady rules.now.all.now }
     requires by_root { AreByRoot rules.now.all.now rules.now.by_root.now }
     requires conflicts { options.conflicts ≤ most_conflicts }
-    ensures strategy { IfOk result (λ done. IsPlainStrategy options.fold rules.now.all.now options.steps done.table module.now done.module done.counts done.limited) }
+    ensures strategy { IfOk result (λ done. IsPlainStrategy options.fold rules.now.across rules.now.all.now options.steps done.table module.now done.module done.counts done.limited) }
     ensures honest { IfOk result (λ done. IsHonestTable rules.now.all.now options.conflicts done.table) }
     ensures unrefuted { IfOk result (λ done. All (IsUnrefutedIn logs) done.table) }
 {
@@ -145,7 +146,7 @@ fn optimise_entries(
 ) -> Result<List<Entry>, AllocError>
     requires entries { EntriesAreReady options.steps entries.now }
     requires asks { MayAsk rules.now options.conflicts verdicts.old }
-    ensures { IfOk result (λ made. OptimisesEntries options.fold rules.now.all.now options.conflicts options.steps entries.now made verdicts.old verdicts.new all.old all.new) }
+    ensures { IfOk result (λ made. OptimisesEntries options.fold rules.now.across rules.now.all.now options.conflicts options.steps entries.now made verdicts.old verdicts.new all.old all.new) }
 {
     let mut made = List::new(alloc);
     for entry in entries {
@@ -166,7 +167,7 @@ fn optimise_entry(
 ) -> Result<Entry, AllocError>
     requires entry { EntryIsReady options.steps entry.now }
     requires asks { MayAsk rules.now options.conflicts verdicts.old }
-    ensures { IfOk result (λ optimised. OptimisesEntry options.fold rules.now.all.now options.conflicts options.steps entry.now optimised verdicts.old verdicts.new all.old all.new) }
+    ensures { IfOk result (λ optimised. OptimisesEntry options.fold rules.now.across rules.now.all.now options.conflicts options.steps entry.now optimised verdicts.old verdicts.new all.old all.new) }
 {
     match entry {
         Entry::Kept(line) => Ok(Entry::Kept(List::from_vec(Vec::from_slice(
@@ -191,7 +192,7 @@ fn optimise_copy(
 ) -> Result<Function, AllocError>
     requires entry { EntryIsReady options.steps (Entry.Function original.now) }
     requires asks { MayAsk rules.now options.conflicts verdicts.old }
-    ensures { IfOk result (λ made. OptimisesEntry options.fold rules.now.all.now options.conflicts options.steps (Entry.Function original.now) (Entry.Function made) verdicts.old verdicts.new all.old all.new) }
+    ensures { IfOk result (λ made. OptimisesEntry options.fold rules.now.across rules.now.all.now options.conflicts options.steps (Entry.Function original.now) (Entry.Function made) verdicts.old verdicts.new all.old all.new) }
 {
     let f = copy_function(alloc, original)?;
     let made = optimise_function(alloc, f, rules, verdicts, options)?;

@@ -27,6 +27,8 @@ pub struct Options {
     pub steps: u32,
     /// Whether branches on numbers are folded, and blocks that are not reached emptied.
     pub fold: bool,
+    /// Whether what a rule matches may stand in several blocks.
+    pub across: bool,
 }
 
 /// How often a function was rewritten, and whether it ran out of steps with an admitted match left.

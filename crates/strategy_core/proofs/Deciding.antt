@@ -5,7 +5,7 @@ if_not_limited : (P Q : Type 0) (limited : Bool) → MatchBool limited P Q → �
 if_not_limited P Q true holds other = absurd (other refl)
 if_not_limited P Q false holds other = holds
 
-module _ (fold : Bool) (rules : List Rule) (table : List Row) (once : (i j : ℕ) (p : Pair) → slice_get (map pair_in table) i ≡ Some p → slice_get (map pair_in table) j ≡ Some p → i ≡ j) where
+module _ (fold across : Bool) (rules : List Rule) (table : List Row) (once : (i j : ℕ) (p : Pair) → slice_get (map pair_in table) i ≡ Some p → slice_get (map pair_in table) j ≡ Some p → i ≡ j) where
   -- a table has at most one row on a pair
   same_row : (r s : Row) → Contains table r → Contains table s → pair_in r ≡ pair_in s → r ≡ s
   same_row r s has_r has_s same =
@@ -22,7 +22,7 @@ module _ (fold : Bool) (rules : List Rule) (table : List Row) (once : (i j : ℕ
       down.3 (ap (λ (r : Row). r.verdict) same ∙ up.3)
 
   decided : (steps : ℕ) (old new : Function) (count : ℕ) (limited : Bool) (asked : List Pair)
-      → ((p : Pair) → Contains asked p → Contains (map pair_in table) p) → IsOptimised fold rules table steps old new count limited asked → IsDecided rules table new limited
+      → ((p : Pair) → Contains asked p → Contains (map pair_in table) p) → IsOptimised fold across rules table steps old new count limited asked → IsDecided across rules table new limited
   decided steps old new count limited asked has o = record {
     verdicts = λ m is.
         let among : Contains o.last.matches m = o.last.are_matches.all m is in
@@ -36,8 +36,8 @@ module _ (fold : Bool) (rules : List Rule) (table : List Row) (once : (i j : ℕ
   }
 
   all_decided : {steps : ℕ} {old new : List Entry} {counts : List ℕ} {limited : List Bool} {asked : List Pair}
-      → ((p : Pair) → Contains asked p → Contains (map pair_in table) p) → AreOptimised fold rules table steps old new counts limited asked
-      → AllZip (IsDecided rules table) (flat_map function_in new) limited
+      → ((p : Pair) → Contains asked p → Contains (map pair_in table) p) → AreOptimised fold across rules table steps old new counts limited asked
+      → AllZip (IsDecided across rules table) (flat_map function_in new) limited
   all_decided has none = tt
   all_decided has (kept line old new counts limited asked others) = all_decided has others
   all_decided {steps} has (function f last count is_limited asked old new counts limited rest one others) = (
@@ -46,5 +46,5 @@ module _ (fold : Bool) (rules : List Rule) (table : List Row) (once : (i j : ℕ
   )
 
 pub strategy_decides : StrategyDecides
-strategy_decides fold rules steps table old new counts limited given =
-    all_decided fold rules table given.rows.once (λ p h. (given.rows.same p).1 h) given.entries
+strategy_decides fold across rules steps table old new counts limited given =
+    all_decided fold across rules table given.rows.once (λ p h. (given.rows.same p).1 h) given.entries

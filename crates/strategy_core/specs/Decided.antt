@@ -12,9 +12,9 @@ use Rattle.bindings.specs.Matches.{IsMatchAmong}
 use Rattle.strategy_core.specs.Asked.{pair_of, HasVerdict, IsAdmitted}
 
 -- every match in the function has a verdict in the table, and none is admitted, unless the function ran out of steps
-pub record IsDecided (rules : List Rule) (table : List Row) (f : Function) (limited : Bool) : Type 0 where
-  pub verdicts : (m : Match) → IsMatchAmong rules f m → HasVerdict table (λ verdict. Unit {0}) (pair_of m)
-  pub none_admitted : ¬ IsTrue limited → (m : Match) → IsMatchAmong rules f m → ¬ IsAdmitted table m
+pub record IsDecided (across : Bool) (rules : List Rule) (table : List Row) (f : Function) (limited : Bool) : Type 0 where
+  pub verdicts : (m : Match) → IsMatchAmong across rules f m → HasVerdict table (λ verdict. Unit {0}) (pair_of m)
+  pub none_admitted : ¬ IsTrue limited → (m : Match) → IsMatchAmong across rules f m → ¬ IsAdmitted table m
 
 -- an entry's function, if it is one
 abbrev pub function_in : Entry → List Function
@@ -22,5 +22,5 @@ function_in (entries.Kept line) = []
 function_in (entries.Function f) = f ∷ []
 
 -- the same of each function of the module, `limited` telling which ran out of steps
-abbrev pub MatchesAreDecided : List Rule → List Row → Module → List Bool → Type 0
-MatchesAreDecided rules table m limited = AllZip (IsDecided rules table) (flat_map function_in m.entries) limited
+abbrev pub MatchesAreDecided : Bool → List Rule → List Row → Module → List Bool → Type 0
+MatchesAreDecided across rules table m limited = AllZip (IsDecided across rules table) (flat_map function_in m.entries) limited

@@ -34,23 +34,23 @@ FoldedNumbersFit = (f g : Function) → NumbersFit f → IsFolded f g → Number
 
 -- what the strategy gives passes the checks of a module, with folding and without
 abbrev pub StrategyMeetsChecks : Type 0
-StrategyMeetsChecks = (fold : Bool) (rules : List Rule) (steps : ℕ) (table : List Row) (old new : Module) (counts : List ℕ) (limited : List Bool)
+StrategyMeetsChecks = (fold across : Bool) (rules : List Rule) (steps : ℕ) (table : List Row) (old new : Module) (counts : List ℕ) (limited : List Bool)
     → AreReady rules → ModuleMeetsChecks old → ModuleNumbersFit old
-    → IsPlainStrategy fold rules steps table old new counts limited → ModuleMeetsChecks new
+    → IsPlainStrategy fold across rules steps table old new counts limited → ModuleMeetsChecks new
 
 -- its literals are numbers of their widths
 abbrev pub StrategyNumbersFit : Type 0
-StrategyNumbersFit = (fold : Bool) (rules : List Rule) (steps : ℕ) (table : List Row) (old new : Module) (counts : List ℕ) (limited : List Bool)
+StrategyNumbersFit = (fold across : Bool) (rules : List Rule) (steps : ℕ) (table : List Row) (old new : Module) (counts : List ℕ) (limited : List Bool)
     → AreReady rules → ModuleMeetsChecks old → ModuleNumbersFit old
-    → IsPlainStrategy fold rules steps table old new counts limited → ModuleNumbersFit new
+    → IsPlainStrategy fold across rules steps table old new counts limited → ModuleNumbersFit new
 
 -- where only valid rules are admitted, what the strategy gives refines the old module, for any number of steps
 abbrev pub StrategyRefines : Type 0
-StrategyRefines = (fold : Bool) (rules : List Rule) (steps : ℕ) (table : List Row) (old new : Module) (counts : List ℕ) (limited : List Bool)
+StrategyRefines = (fold across : Bool) (rules : List Rule) (steps : ℕ) (table : List Row) (old new : Module) (counts : List ℕ) (limited : List Bool)
     → AreReady rules → AdmittedAreValid rules table → ModuleMeetsChecks old → ModuleNumbersFit old
-    → IsPlainStrategy fold rules steps table old new counts limited → ModuleRefines old new
+    → IsPlainStrategy fold across rules steps table old new counts limited → ModuleRefines old new
 
 -- every match that is left has a verdict in the table, and none is admitted, unless its function ran out of steps
 abbrev pub StrategyDecides : Type 0
-StrategyDecides = (fold : Bool) (rules : List Rule) (steps : ℕ) (table : List Row) (old new : Module) (counts : List ℕ) (limited : List Bool)
-    → IsPlainStrategy fold rules steps table old new counts limited → MatchesAreDecided rules table new limited
+StrategyDecides = (fold across : Bool) (rules : List Rule) (steps : ℕ) (table : List Row) (old new : Module) (counts : List ℕ) (limited : List Bool)
+    → IsPlainStrategy fold across rules steps table old new counts limited → MatchesAreDecided across rules table new limited

@@ -3,7 +3,8 @@
 -- First a function's dead code is eliminated (it is cleaned). Then a search goes through its matches in order, asks for
 -- the verdict of each, and ends at the first that is admitted. There the function is rewritten and cleaned, which is a
 -- step, and the search begins again. The last search finds no admitted match, or has no step left; it goes through all
--- matches. Where folding of branches is asked for, a function is folded each time before it is cleaned.
+-- matches. Where folding of branches is asked for, a function is folded each time before it is cleaned; where matching
+-- across blocks is, its matches are those across blocks.
 use Rattle.std.specs.Prelude.{◌≡◌, ℕ, suc, ◌-◌, ◌≤◌, Bool, true, false, List, [], ◌∷◌, ◌++◌, map, All, Any, MatchBool}
 use Rattle.ir_core.specs.declared.module.Module.{Module}
 use Rattle.ir_core.specs.declared.module.Entry.{Entry}
@@ -25,20 +26,20 @@ IsTidied false old new = IsCleaned old new
 
 -- The last search of a function, with `left` steps left, asks for the verdicts of all matches. Either all are turned
 -- down, or no step is left and one is admitted: then the function is limited.
-pub record IsLastSearch (rules : List Rule) (table : List Row) (left : ℕ) (f : Function) (limited : Bool) (asked : List Pair) : Type 0 where
+pub record IsLastSearch (across : Bool) (rules : List Rule) (table : List Row) (left : ℕ) (f : Function) (limited : Bool) (asked : List Pair) : Type 0 where
   pub matches : List Match
-  pub are_matches : AreMatches rules f matches
+  pub are_matches : AreMatches across rules f matches
   pub asks : asked ≡ map pair_of matches
   pub ends : MatchBool limited ((left ≡ 0) × Any (IsAdmitted table) matches) (All (IsTurnedDown table) matches)
 
-module _ (fold : Bool) (rules : List Rule) (table : List Row) where
+module _ (fold across : Bool) (rules : List Rule) (table : List Row) where
   -- One step: the search asks for the verdicts of the matches before some match, which are all turned down, and then of
   -- that match, which is admitted. There the function is rewritten, and then tidied.
   pub record IsStep (f new : Function) (asked : List Pair) : Type 0 where
     pub chosen : Match
-    pub is_match : IsMatchAmong rules f chosen
+    pub is_match : IsMatchAmong across rules f chosen
     pub passed : List Match
-    pub are_before : AreMatchesBefore rules f chosen passed
+    pub are_before : AreMatchesBefore across rules f chosen passed
     pub turned_down : All (IsTurnedDown table) passed
     pub admitted : IsAdmitted table chosen
     pub asks : asked ≡ map pair_of (passed ++ chosen ∷ [])
@@ -61,7 +62,7 @@ module _ (fold : Bool) (rules : List Rule) (table : List Row) where
     pub comes : ComesOf count tidied new in_steps
     pub within : count ≤ steps
     pub at_last : List Pair
-    pub last : IsLastSearch rules table (steps - count) new limited at_last
+    pub last : IsLastSearch across rules table (steps - count) new limited at_last
     pub asks : asked ≡ in_steps ++ at_last
 
   -- the same for the entries of a module: kept lines stay, and each function has its count, and whether it is limited
@@ -78,7 +79,7 @@ module _ (fold : Bool) (rules : List Rule) (table : List Row) where
 -- What the strategy gives for a module by this table, with at most `steps` steps for each function, and with folding
 -- where `fold` asks for it. The table is the strategy's own: it has a row for each pair that is asked, in the order in
 -- which they are first asked.
-pub record IsPlainStrategy (fold : Bool) (rules : List Rule) (steps : ℕ) (table : List Row) (old new : Module) (counts : List ℕ) (limited : List Bool) : Type 0 where
+pub record IsPlainStrategy (fold across : Bool) (rules : List Rule) (steps : ℕ) (table : List Row) (old new : Module) (counts : List ℕ) (limited : List Bool) : Type 0 where
   pub asked : List Pair
-  pub entries : AreOptimised fold rules table steps old.entries new.entries counts limited asked
+  pub entries : AreOptimised fold across rules table steps old.entries new.entries counts limited asked
   pub rows : AreFirstAsked asked (map pair_in table)

@@ -8,8 +8,8 @@ use needed::{every_cleaned_function_refines_the_old, every_cleaned_number_was_th
 use rewriter::{rewritten_functions_meet_checks, rewritten_functions_refine};
 
 /// What the strategy gives for a module, with folding and without, refines it, where only valid rules are admitted, for
-/// any number of steps. Whether they are valid or not, it passes the checks of a module, and its literals are numbers of
-/// their widths.
+/// any number of steps. Whether they are valid or not, it passes the checks of a module, and its literals are numbers
+/// of their widths.
 pub fn every_optimised_module_refines_the_old()
     ensures refines { StrategyRefines }
     ensures checks { StrategyMeetsChecks }

@@ -1,5 +1,6 @@
 //! The whole program, with files and sinks in memory.
 
+mod across;
 mod facts;
 mod faults;
 mod folding;
@@ -23,6 +24,9 @@ use std::process::Abort;
 use std::test::Fail;
 
 const OPTIMISE: &str = "alive optimise r m";
+
+/// The flags to fold and to match across blocks, in each mix.
+const MIXES: [&str; 4] = ["", " --fold", " --across", " --fold --across"];
 
 const VERIFY: &str = "alive verify r";
 
@@ -68,6 +72,28 @@ fn is_left(status: u8, world: &World, row: &Row) -> bool {
     status == row.status
         && world.sinks.out.contents() == row.out.as_bytes()
         && world.sinks.err.contents() == row.err.as_bytes()
+}
+
+/// Runs a row's command with more flags, and says whether its status and what it wrote are the row's.
+fn leaves_with(alloc: Global, row: &Row, flags: &str) -> Result<bool, AllocError> {
+    let mut world = world_of(alloc, row.rules.as_bytes(), row.source.as_bytes())?;
+    let line = format!(in alloc; "{}{flags}", row.words)?;
+    let status = run(alloc, line.as_str(), &mut world)?;
+    Ok(is_left(status, &world, row))
+}
+
+/// Runs the command of each row with more flags, and compares.
+fn all_leave_with(rt: &impl Abort, alloc: Global, rows: &[Row], flags: &str) -> Result<(), Fail> {
+    for row in rows {
+        assert!(rt;
+            leaves_with(alloc, row, flags)?,
+            "what {}{flags} leaves of {}{}",
+            row.words,
+            row.rules,
+            row.source
+        );
+    }
+    Ok(())
 }
 
 /// Runs the command of each row, and compares.

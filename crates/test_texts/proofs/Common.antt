@@ -1,6 +1,7 @@
 -- What the proofs of this crate cite of definitions, of other crates and of the libraries, passed on from one place.
-pub use Rattle.std.proofs.Common.{All, List, Some, [], arith, get_or, length, refl, slice_get, subst, suc, sym, zero, ℕ, ◌-◌, ◌<◌, ◌^◌, ◌∷◌, ◌≡◌, ◌≤◌}
-pub use Rattle.bindings.specs.Match.{IsMatch}
+pub use Rattle.std.proofs.Common.{All, List, Some, [], arith, false, get_or, length, refl, slice_get, subst, suc, sym, zero, ℕ, ◌-◌, ◌<◌, ◌^◌, ◌∷◌, ◌≡◌, ◌≤◌}
+pub use Rattle.bindings.specs.Known.{Knowledge}
+pub use Rattle.bindings.specs.Match.{MatchesWhere}
 pub use Rattle.bindings.specs.declared.binding.Binding.{Binding}
 pub use Rattle.ir_core.specs.Blocks.{IsBlock}
 pub use Rattle.ir_core.specs.declared.function.Block.{Block}

@@ -1,5 +1,5 @@
 -- What is known of functions and rules that were read.
-use Rattle.test_texts.proofs.Common.{ℕ, ◌<◌, ◌≤◌, ◌-◌, ◌^◌, List, length, get_or, sym, subst, arith, All, All-from_get_or, slice_get_within, get_or_from_slice_get, IsBlock, Block, Function, Entry, OperandFits, FunctionHasForms, NumbersFit, IsRule, Rule, IsClassified, HasNoFault, IsMatch, Binding, FunctionIsReady, RuleIsReady}
+use Rattle.test_texts.proofs.Common.{ℕ, ◌<◌, ◌≤◌, ◌-◌, ◌^◌, List, length, get_or, sym, subst, arith, All, All-from_get_or, slice_get_within, get_or_from_slice_get, IsBlock, Block, Function, Entry, OperandFits, FunctionHasForms, NumbersFit, IsRule, Rule, IsClassified, HasNoFault, Knowledge, MatchesWhere, Binding, FunctionIsReady, RuleIsReady}
 use Rattle.ir_core.specs.declared.module.Entry.TheVariants as entries
 
 -- each rule that was read is ready
@@ -25,8 +25,8 @@ places_are_few f b ready block is =
     (ready.insts b block (slice_get_within f.blocks b block is))
 
 -- a binding names the block and the place where it was looked for
-pub is_match_there : (f : Function) (b k : ℕ) (rule : Rule) (binding : Binding) → IsMatch f b k rule binding
-    → IsMatch f binding.block binding.place rule binding
-is_match_there f b k rule binding is =
-    subst (λ (d : ℕ). IsMatch f d binding.place rule binding) (sym is.block)
-    (subst (λ (j : ℕ). IsMatch f b j rule binding) (sym is.place) is)
+pub is_match_there : {Before : ℕ → ℕ → ℕ → ℕ → Type 0} {known : Knowledge} (f : Function) (b k : ℕ) (rule : Rule) (binding : Binding) → MatchesWhere Before known f b k rule binding
+    → MatchesWhere Before known f binding.block binding.place rule binding
+is_match_there {Before} {known} f b k rule binding is =
+    subst (λ (d : ℕ). MatchesWhere Before known f d binding.place rule binding) (sym is.block)
+    (subst (λ (j : ℕ). MatchesWhere Before known f b j rule binding) (sym is.place) is)

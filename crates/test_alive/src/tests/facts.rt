@@ -1,5 +1,5 @@
-//! What preconditions of version 2 say of bits: rules that are decided where it holds, texts in which it may not stand, and
-//! functions in which it is known, or not.
+//! What preconditions of version 2 say of bits: rules that are decided where it holds, texts in which it may not stand,
+//! and functions in which it is known, or not.
 
 use super::*;
 

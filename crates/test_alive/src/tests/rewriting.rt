@@ -72,6 +72,15 @@ a:
 }
 ";
 
+const OUT_OF_REACH_EMPTIED: &str = "define i8 @u() {
+entry:
+  ret i8 0
+
+a:
+  unreachable
+}
+";
+
 const BOTH_WIDTHS: &str = "define i2 @b(i1 %p, i2 %q) {
   %u = add nsw i1 %p, %p
   %v = add nsw i2 %q, %q
@@ -96,7 +105,7 @@ const NOT_ADD_TWICE: &str =
 const SUM_TIMES: &str =
     "define i16 @w(i16 %x, i16 %y, i16 %z) {\n  %a = add i16 %x, %y\n  %r = mul i16 %a, %z\n  ret i16 %r\n}\n";
 
-const ROWS: [Row; 17] = [
+const ROWS: [Row; 16] = [
     Row {
         words: OPTIMISE,
         rules: NOT_ADD,
@@ -177,14 +186,6 @@ const ROWS: [Row; 17] = [
         out: "define i4 @g(i4 %a) {\n  %1 = xor i4 %a, -1\n  %2 = sub i4 4, %a\n  %3 = and i4 %1, %2\n  ret i4 %3\n}\n",
         err: "not-add [4]: admitted\n@g: 1 rewrites\n",
     },
-    Row {
-        words: OPTIMISE,
-        rules: ADD_ZERO,
-        source: OUT_OF_REACH,
-        status: 0,
-        out: OUT_OF_REACH,
-        err: "@u: 0 rewrites\n",
-    },
     // a verdict that isn't admitted is in the report, and nothing is rewritten at its matches
     Row {
         words: "alive optimise r m --conflicts 1",
@@ -238,7 +239,51 @@ const ROWS: [Row; 17] = [
     },
 ];
 
+/// No rule matches where the entry doesn't lead, whatever the flags are.
+const UNREACHED_ROWS: [Row; 4] = [
+    Row {
+        words: OPTIMISE,
+        rules: ADD_ZERO,
+        source: OUT_OF_REACH,
+        status: 0,
+        out: OUT_OF_REACH,
+        err: "@u: 0 rewrites\n",
+    },
+    Row {
+        words: "alive optimise r m --across",
+        rules: ADD_ZERO,
+        source: OUT_OF_REACH,
+        status: 0,
+        out: OUT_OF_REACH,
+        err: "@u: 0 rewrites\n",
+    },
+    Row {
+        words: "alive optimise r m --fold",
+        rules: ADD_ZERO,
+        source: OUT_OF_REACH,
+        status: 0,
+        out: OUT_OF_REACH_EMPTIED,
+        err: "@u: 0 rewrites\n",
+    },
+    Row {
+        words: "alive optimise r m --fold --across",
+        rules: ADD_ZERO,
+        source: OUT_OF_REACH,
+        status: 0,
+        out: OUT_OF_REACH_EMPTIED,
+        err: "@u: 0 rewrites\n",
+    },
+];
+
 #[test]
 fn modules_are_rewritten(rt: HostRuntime) -> Result<(), Fail> {
-    all_leave(&rt, rt.alloc(), &ROWS)
+    for flags in &MIXES {
+        all_leave_with(&rt, rt.alloc(), &ROWS, flags)?;
+    }
+    Ok(())
+}
+
+#[test]
+fn unreached_blocks_are_not_rewritten(rt: HostRuntime) -> Result<(), Fail> {
+    all_leave(&rt, rt.alloc(), &UNREACHED_ROWS)
 }

@@ -219,6 +219,7 @@ fn cleaned(alloc: Global, text: &str) -> Option<Optimised> {
         conflicts: 0,
         steps: 0,
         fold: false,
+        across: false,
     };
     optimise(alloc, text.as_bytes(), &[], options).ok()
 }

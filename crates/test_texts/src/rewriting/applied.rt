@@ -290,7 +290,7 @@ fn apply_there(
     requires function { FunctionIsReady f.old }
     requires rule { RuleIsReady rule.now }
 {
-    let Some(binding) = match_there(alloc, f, block, place, rule)? else {
+    let Some(binding) = match_there(alloc, f, block, place, rule, false)? else {
         return Ok(false);
     };
     apply(alloc, f, &binding, rule)?;

@@ -11,6 +11,7 @@ use bindings::Binding;
 use ir_core::{Function, Operand, Register, end_of};
 use rule_core::Rule;
 use std::alloc::Global;
+use std::process::Abort;
 use std::test::Fail;
 
 /// What an input is bound to.
@@ -20,11 +21,11 @@ enum Given {
     Poison,
 }
 
-/// A match: its block and the place of its root, the places of its statements' instructions, what its inputs and
-/// constants are bound to, and the widths of its classes.
+/// A match: the block and the place of its root, those of its statements' instructions, what its inputs and constants
+/// are bound to, and the widths of its classes.
 struct Match {
     at: (u32, u32),
-    statements: &'static [u32],
+    statements: &'static [(u32, u32)],
     inputs: &'static [Given],
     constants: &'static [u64],
     widths: &'static [u32],
@@ -40,6 +41,8 @@ struct Row {
 const A: Given = Given::Register(Register::Parameter(0));
 
 const B: Given = Given::Register(Register::Parameter(1));
+
+const NOT_NOT: &str = "Name: not-not\n%1 = xor %x, -1\n%r = xor %1, -1\n=>\n%r = %x\n";
 
 const AND_ONES: &str = "Name: and-ones\n%r = and %x, -1\n=>\n%r = %x\n";
 
@@ -59,13 +62,14 @@ const OR_KNOWN: &str =
 const NON_ZERO: &str =
     "Version: 2\nName: nonzero\nPre: isKnownNonZero(%x)\n%r = icmp eq %x, 0\n=>\n%r = 0\n";
 
-const ROWS: [Row; 37] = [
+/// Matches that are the same inside blocks and across blocks.
+const ROWS: [Row; 36] = [
     Row {
         rule: NOT_ADD,
         function: "define i4 @f(i4 %a) { %1 = xor i4 %a, -1 %2 = add i4 %1, 5 ret i4 %2 }",
         matches: &[Match {
             at: (0, 1),
-            statements: &[0, 1],
+            statements: &[(0, 0), (0, 1)],
             inputs: &[A],
             constants: &[5],
             widths: &[4],
@@ -78,7 +82,7 @@ const ROWS: [Row; 37] = [
 %c = icmp ult i8 %k, %n br i1 %c, label %l, label %out out: ret i8 %k }",
         matches: &[Match {
             at: (1, 1),
-            statements: &[1],
+            statements: &[(1, 1)],
             inputs: &[Given::Register(Register::Result(1, 0))],
             constants: &[],
             widths: &[8],
@@ -92,7 +96,7 @@ const ROWS: [Row; 37] = [
 %c = icmp ult i8 %j, %n br i1 %c, label %loop, label %exit exit: ret i8 %r }",
         matches: &[Match {
             at: (1, 3),
-            statements: &[3],
+            statements: &[(1, 3)],
             inputs: &[Given::Register(Register::Result(1, 2))],
             constants: &[],
             widths: &[8],
@@ -103,7 +107,7 @@ const ROWS: [Row; 37] = [
         function: "define i4 @f(i1 %c, i4 %a) { %t = add i4 %a, 1 %r = select i1 %c, i4 %a, i4 %t ret i4 %r }",
         matches: &[Match {
             at: (0, 1),
-            statements: &[0, 1],
+            statements: &[(0, 0), (0, 1)],
             inputs: &[B, A],
             constants: &[],
             widths: &[4, 1],
@@ -121,7 +125,7 @@ const ROWS: [Row; 37] = [
         function: "define i4 @f(i4 %a) { %1 = xor i4 %a, -1 %2 = add nuw nsw i4 %1, 5 ret i4 %2 }",
         matches: &[Match {
             at: (0, 1),
-            statements: &[0, 1],
+            statements: &[(0, 0), (0, 1)],
             inputs: &[A],
             constants: &[5],
             widths: &[4],
@@ -138,7 +142,7 @@ const ROWS: [Row; 37] = [
         function: "define i8 @f(i8 %a) { %t = add i8 %a, 1 %r = sub nsw i8 %t, 1 ret i8 %r }",
         matches: &[Match {
             at: (0, 1),
-            statements: &[0, 1],
+            statements: &[(0, 0), (0, 1)],
             inputs: &[A],
             constants: &[],
             widths: &[8],
@@ -155,7 +159,7 @@ const ROWS: [Row; 37] = [
         function: "define i8 @f(i8 %a) { %t = add nsw i8 %a, 1 %r = sub i8 %t, 1 ret i8 %r }",
         matches: &[Match {
             at: (0, 1),
-            statements: &[0, 1],
+            statements: &[(0, 0), (0, 1)],
             inputs: &[A],
             constants: &[1],
             widths: &[8],
@@ -167,7 +171,7 @@ const ROWS: [Row; 37] = [
         function: "define i8 @f(i8 %a) { %1 = add nuw i8 %a, 1 %2 = add nuw nsw i8 %1, 1 ret i8 %2 }",
         matches: &[Match {
             at: (0, 1),
-            statements: &[1],
+            statements: &[(0, 1)],
             inputs: &[Given::Register(Register::Result(0, 0))],
             constants: &[],
             widths: &[8],
@@ -184,7 +188,7 @@ const ROWS: [Row; 37] = [
         function: "define i4 @g(i4 %a) { %1 = xor i4 %a, -1 %2 = add i4 %1, 5 %3 = and i4 %1, %2 ret i4 %3 }",
         matches: &[Match {
             at: (0, 1),
-            statements: &[0, 1],
+            statements: &[(0, 0), (0, 1)],
             inputs: &[A],
             constants: &[5],
             widths: &[4],
@@ -195,7 +199,7 @@ const ROWS: [Row; 37] = [
         function: "define i4 @g(i4 %a) { %1 = xor i4 %a, -1 %2 = add i4 %1, 5 %3 = and i4 %2, %2 ret i4 %3 }",
         matches: &[Match {
             at: (0, 1),
-            statements: &[0, 1],
+            statements: &[(0, 0), (0, 1)],
             inputs: &[A],
             constants: &[5],
             widths: &[4],
@@ -210,12 +214,6 @@ const ROWS: [Row; 37] = [
     Row {
         rule: NOT_ADD_ONCE,
         function: "define i4 @g(i4 %a) { %x = xor i4 %a, -1 %y = add i4 %x, 5 ret i4 %y b: ret i4 %x }",
-        matches: &[],
-    },
-    // A temporary in another block.
-    Row {
-        rule: NOT_ADD,
-        function: "define i4 @f(i4 %a) { %x = xor i4 %a, -1 br label %b b: %y = add i4 %x, 5 ret i4 %y }",
         matches: &[],
     },
     // `undef` for an input, and for a constant.
@@ -235,7 +233,7 @@ const ROWS: [Row; 37] = [
         function: "define i4 @f(i4 %a) { %x = and i4 %a, undef %y = and i4 %x, 0 ret i4 %y }",
         matches: &[Match {
             at: (0, 0),
-            statements: &[0],
+            statements: &[(0, 0)],
             inputs: &[A],
             constants: &[],
             widths: &[4],
@@ -247,7 +245,7 @@ const ROWS: [Row; 37] = [
         function: "define i8 @f(i8 %a) { %x = and i8 %a, 255 ret i8 %x }",
         matches: &[Match {
             at: (0, 0),
-            statements: &[0],
+            statements: &[(0, 0)],
             inputs: &[A],
             constants: &[],
             widths: &[8],
@@ -265,14 +263,14 @@ const ROWS: [Row; 37] = [
         matches: &[
             Match {
                 at: (0, 0),
-                statements: &[0],
+                statements: &[(0, 0)],
                 inputs: &[Given::Poison],
                 constants: &[],
                 widths: &[4],
             },
             Match {
                 at: (0, 1),
-                statements: &[1],
+                statements: &[(0, 1)],
                 inputs: &[Given::Number(3)],
                 constants: &[],
                 widths: &[4],
@@ -291,7 +289,7 @@ const ROWS: [Row; 37] = [
         function: "define i4 @f(i4 %a) { %x = and i4 %a, 3 %y = and i4 %x, 5 %z = and i4 %y, 5 ret i4 %z }",
         matches: &[Match {
             at: (0, 2),
-            statements: &[1, 2],
+            statements: &[(0, 1), (0, 2)],
             inputs: &[Given::Register(Register::Result(0, 0))],
             constants: &[5],
             widths: &[4],
@@ -303,7 +301,7 @@ const ROWS: [Row; 37] = [
         function: "define i8 @f(i8 %a, i8 %b) { %c = icmp eq i8 %a, 7 %x = select i1 %c, i8 %b, i8 7 ret i8 %x }",
         matches: &[Match {
             at: (0, 1),
-            statements: &[0, 1],
+            statements: &[(0, 0), (0, 1)],
             inputs: &[A, B],
             constants: &[7],
             widths: &[1, 8],
@@ -320,7 +318,7 @@ const ROWS: [Row; 37] = [
         function: "define i8 @f(i8 %a) { %x = mul i8 %a, 6 %y = mul i8 %x, 8 ret i8 %y }",
         matches: &[Match {
             at: (0, 1),
-            statements: &[1],
+            statements: &[(0, 1)],
             inputs: &[Given::Register(Register::Result(0, 0))],
             constants: &[8],
             widths: &[8],
@@ -332,7 +330,7 @@ const ROWS: [Row; 37] = [
         function: "define i32 @f(i8 %a) { %x = zext i8 %a to i16 %y = zext i16 %x to i32 %z = sext i16 %x to i32 ret i32 %y }",
         matches: &[Match {
             at: (0, 1),
-            statements: &[0, 1],
+            statements: &[(0, 0), (0, 1)],
             inputs: &[A],
             constants: &[],
             widths: &[16, 8, 32],
@@ -343,7 +341,7 @@ const ROWS: [Row; 37] = [
         function: "define i8 @f(i8 %a) { %x = add i8 %a, %a ret i8 %x }",
         matches: &[Match {
             at: (0, 0),
-            statements: &[0],
+            statements: &[(0, 0)],
             inputs: &[A],
             constants: &[],
             widths: &[8, 1, 3],
@@ -355,7 +353,7 @@ const ROWS: [Row; 37] = [
         function: "define i5 @f(i5 %a) { %1 = shl i5 %a, 2 %2 = or i5 %1, 3 %3 = or i5 %1, 5 %4 = xor i5 %2, %3 ret i5 %4 }",
         matches: &[Match {
             at: (0, 1),
-            statements: &[1],
+            statements: &[(0, 1)],
             inputs: &[Given::Register(Register::Result(0, 0))],
             constants: &[3],
             widths: &[5],
@@ -368,7 +366,7 @@ const ROWS: [Row; 37] = [
 %5 = xor i1 %3, %4 ret i1 %5 }",
         matches: &[Match {
             at: (0, 2),
-            statements: &[2],
+            statements: &[(0, 2)],
             inputs: &[Given::Register(Register::Result(0, 0))],
             constants: &[],
             widths: &[1, 4],
@@ -382,14 +380,14 @@ ret i5 %5 }",
         matches: &[
             Match {
                 at: (0, 0),
-                statements: &[0],
+                statements: &[(0, 0)],
                 inputs: &[Given::Poison],
                 constants: &[0],
                 widths: &[5],
             },
             Match {
                 at: (0, 2),
-                statements: &[2],
+                statements: &[(0, 2)],
                 inputs: &[Given::Number(4)],
                 constants: &[3],
                 widths: &[5],
@@ -409,7 +407,7 @@ ret i5 %5 }",
         function: "define i5 @f(i5 %a) { %1 = lshr exact i5 %a, 1 %2 = and i5 %1, 16 %3 = and i5 %1, 24 %4 = or i5 %2, %3 ret i5 %4 }",
         matches: &[Match {
             at: (0, 1),
-            statements: &[0, 1],
+            statements: &[(0, 0), (0, 1)],
             inputs: &[A],
             constants: &[16],
             widths: &[5],
@@ -422,7 +420,7 @@ ret i5 %5 }",
 %5 = mul i4 %b, %2 %6 = mul i4 %b, %3 %7 = xor i4 %4, %5 %8 = xor i4 %6, %7 ret i4 %8 }",
         matches: &[Match {
             at: (0, 4),
-            statements: &[4],
+            statements: &[(0, 4)],
             inputs: &[B, Given::Register(Register::Result(0, 1))],
             constants: &[],
             widths: &[4],
@@ -436,19 +434,132 @@ ret i5 %5 }",
     },
 ];
 
+/// Matches across blocks, in functions that have none inside a block.
+const ACROSS_ROWS: [Row; 9] = [
+    // A temporary in another block, which is the only way to the root's.
+    Row {
+        rule: NOT_ADD,
+        function: "define i4 @f(i4 %a) { %x = xor i4 %a, -1 br label %b b: %y = add i4 %x, 5 ret i4 %y }",
+        matches: &[Match {
+            at: (1, 0),
+            statements: &[(0, 0), (1, 0)],
+            inputs: &[A],
+            constants: &[5],
+            widths: &[4],
+        }],
+    },
+    // A temporary behind its root in the text, and one read in two blocks.
+    Row {
+        rule: NOT_ADD,
+        function: "define i4 @f(i4 %a, i1 %c) { e: br label %t b: %y = add i4 %x, 5 ret i4 %y
+t: %x = xor i4 %a, -1 br i1 %c, label %b, label %d d: %z = add i4 %x, 6 ret i4 %z }",
+        matches: &[
+            Match {
+                at: (1, 0),
+                statements: &[(2, 0), (1, 0)],
+                inputs: &[A],
+                constants: &[5],
+                widths: &[4],
+            },
+            Match {
+                at: (3, 0),
+                statements: &[(2, 0), (3, 0)],
+                inputs: &[A],
+                constants: &[6],
+                widths: &[4],
+            },
+        ],
+    },
+    // In a loop, of what stands before it.
+    Row {
+        rule: NOT_NOT,
+        function: "define i4 @l(i4 %a) { entry: %n = xor i4 %a, -1 br label %loop
+loop: %i = phi i4 [ 0, %entry ], [ %m, %loop ] %m = xor i4 %n, -1 %c = icmp ult i4 %i, %m
+br i1 %c, label %loop, label %exit exit: ret i4 %m }",
+        matches: &[Match {
+            at: (1, 1),
+            statements: &[(0, 0), (1, 1)],
+            inputs: &[A],
+            constants: &[],
+            widths: &[4],
+        }],
+    },
+    // Three blocks, of which the middle one is passed by chance.
+    Row {
+        rule: "Name: and-and\n%t = and %x, C\n%r = and %t, C\n=>\n%r = and %x, C\n",
+        function: "define i4 @f(i4 %a, i1 %c) { e: %x = and i4 %a, 3 br i1 %c, label %m, label %o
+m: %y = and i4 %x, 3 br label %o o: %z = and i4 %x, 3 ret i4 %z }",
+        matches: &[
+            Match {
+                at: (1, 0),
+                statements: &[(0, 0), (1, 0)],
+                inputs: &[A],
+                constants: &[3],
+                widths: &[4],
+            },
+            Match {
+                at: (2, 0),
+                statements: &[(0, 0), (2, 0)],
+                inputs: &[A],
+                constants: &[3],
+                widths: &[4],
+            },
+        ],
+    },
+    // A temporary that only a phi reads, and the phi itself.
+    Row {
+        rule: NOT_ADD,
+        function: "define i4 @f(i4 %a, i1 %c) { e: br i1 %c, label %x, label %y x: %n = xor i4 %a, -1 br label %y
+y: %m = phi i4 [ 0, %e ], [ %n, %x ] %r = add i4 %m, 5 ret i4 %r }",
+        matches: &[],
+    },
+    // `hasOneUse`, of a result that another block uses once, and of one that two blocks use.
+    Row {
+        rule: NOT_ADD_ONCE,
+        function: "define i4 @f(i4 %a) { %x = xor i4 %a, -1 br label %b b: %y = add i4 %x, 5 ret i4 %y }",
+        matches: &[Match {
+            at: (1, 0),
+            statements: &[(0, 0), (1, 0)],
+            inputs: &[A],
+            constants: &[5],
+            widths: &[4],
+        }],
+    },
+    Row {
+        rule: NOT_ADD_ONCE,
+        function: "define i4 @f(i4 %a, i1 %c) { %x = xor i4 %a, -1 br i1 %c, label %b, label %d b: %y = add i4 %x, 5
+ret i4 %y d: ret i4 %x }",
+        matches: &[],
+    },
+    // One flag too many on a temporary in another block.
+    Row {
+        rule: SEL_INC,
+        function: "define i4 @f(i1 %c, i4 %a) { %t = add nsw i4 %a, 1 br label %b
+b: %r = select i1 %c, i4 %a, i4 %t ret i4 %r }",
+        matches: &[],
+    },
+    // A root in a block that isn't reached.
+    Row {
+        rule: NOT_ADD,
+        function: "define i4 @f(i4 %a) { %x = xor i4 %a, -1 ret i4 %x b: %y = add i4 %x, 5 ret i4 %y }",
+        matches: &[],
+    },
+];
+
 /// Appends the bindings with which a rule matches in a block, in order.
 fn push_in_block(
     alloc: Global,
     f: &Function,
     block: u32,
     rule: &Rule,
+    across: bool,
     found: &mut Vec<Binding>,
 ) -> Result<(), Unfit>
     requires function { FunctionIsReady f.now }
     requires rule { RuleIsReady rule.now }
 {
     for place in 0..end_of(f, block) {
-        if let Some(binding) = match_there(alloc, f, block, place, rule)? {
+        if let Some(binding) = match_there(alloc, f, block, place, rule, across)? {
             found.push(binding)?;
         }
     }
@@ -456,29 +567,39 @@ fn push_in_block(
 }
 
 /// The bindings with which a rule matches in a function, block by block.
-fn matches_in(alloc: Global, f: &Function, rule: &Rule) -> Result<Vec<Binding>, Unfit>
+fn matches_in(alloc: Global, f: &Function, rule: &Rule, across: bool) -> Result<Vec<Binding>, Unfit>
     requires function { FunctionIsReady f.now }
     requires rule { RuleIsReady rule.now }
 {
     let mut found = Vec::new(alloc);
     for block in 0..f.blocks.len() as u32 {
-        push_in_block(alloc, f, block, rule, &mut found)?;
+        push_in_block(alloc, f, block, rule, across, &mut found)?;
     }
     Ok(found)
 }
 
 /// The same for the function of a text.
-fn matches_in_text(alloc: Global, rule: &Rule, function: &str) -> Result<Vec<Binding>, Unfit>
+fn matches_in_text(
+    alloc: Global,
+    rule: &Rule,
+    function: &str,
+    across: bool,
+) -> Result<Vec<Binding>, Unfit>
     requires { RuleIsReady rule.now }
 {
     let f = function_of(alloc, function)?;
-    matches_in(alloc, &f, rule)
+    matches_in(alloc, &f, rule, across)
 }
 
 /// The same for the rule of a text.
-fn matches_of(alloc: Global, rule: &str, function: &str) -> Result<Vec<Binding>, Unfit> {
+fn matches_of(
+    alloc: Global,
+    rule: &str,
+    function: &str,
+    across: bool,
+) -> Result<Vec<Binding>, Unfit> {
     let rule = rule_of(alloc, rule)?;
-    matches_in_text(alloc, &rule, function)
+    matches_in_text(alloc, &rule, function, across)
 }
 
 /// Whether an input is bound to this.
@@ -500,7 +621,7 @@ fn is_this(binding: &Binding, expected: &Match) -> bool {
         && statements.len() == expected.statements.len()
         && statements
             .zip(expected.statements)
-            .all(|(r, place)| *r == Register::Result(expected.at.0, *place))
+            .all(|(r, place)| *r == Register::Result(place.0, place.1))
         && binding.inputs.len() == expected.inputs.len()
         && binding
             .inputs
@@ -527,10 +648,10 @@ fn are_these(found: &[Binding], expected: &[Match]) -> bool {
             .all(|(binding, expected)| is_this(binding, expected))
 }
 
-#[test]
-fn rules_match_where_they_should(rt: HostRuntime) -> Result<(), Fail> {
-    for row in &ROWS {
-        let found = matches_of(rt.alloc(), row.rule, row.function)?;
+/// Finds the matches of each row, and compares.
+fn all_match(rt: &impl Abort, alloc: Global, rows: &[Row], across: bool) -> Result<(), Fail> {
+    for row in rows {
+        let found = matches_of(alloc, row.rule, row.function, across)?;
         assert!(rt;
             are_these(found.as_slice(), row.matches),
             "{}{}\n{found:?}",
@@ -539,4 +660,19 @@ fn rules_match_where_they_should(rt: HostRuntime) -> Result<(), Fail> {
         );
     }
     Ok(())
+}
+
+#[test]
+fn rules_match_where_they_should(rt: HostRuntime) -> Result<(), Fail> {
+    all_match(&rt, rt.alloc(), &ROWS, false)?;
+    all_match(&rt, rt.alloc(), &ROWS, true)
+}
+
+#[test]
+fn rules_match_across_blocks_where_that_is_asked_for(rt: HostRuntime) -> Result<(), Fail> {
+    for row in &ACROSS_ROWS {
+        let found = matches_of(rt.alloc(), row.rule, row.function, false)?;
+        assert!(rt; found.is_empty(), "{}{}\n{found:?}", row.rule, row.function);
+    }
+    all_match(&rt, rt.alloc(), &ACROSS_ROWS, true)
 }

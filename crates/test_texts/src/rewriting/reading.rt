@@ -136,20 +136,21 @@ fn has_inst(f: &Function, block: u32, place: u32) -> bool
     }
 }
 
-/// The binding with which a rule matches at a place of a block, if there is an instruction.
+/// The binding with which a rule matches at a place of a block, inside it or across blocks, if there is an instruction.
 pub(crate) fn match_there(
     alloc: Global,
     f: &Function,
     block: u32,
     place: u32,
     rule: &Rule,
+    across: bool,
 ) -> Result<Option<Binding>, Unfit>
     requires function { FunctionIsReady f.now }
     requires rule { RuleIsReady rule.now }
-    ensures { IfOk result (λ found. IfSome found (IsMatch f.now block place rule.now)) }
+    ensures { IfOk result (λ found. IfSome found (IsMatch across f.now block place rule.now)) }
 {
     if !has_inst(f, block, place) {
         return Err(Unfit::NoPlace);
     }
-    Ok(match_at(alloc, f, block, place, rule)?)
+    Ok(match_at(alloc, f, block, place, rule, across)?)
 }

@@ -107,7 +107,7 @@ fn apply_there(
     requires rule { RuleIsReady rule.now }
     requires uses { AreCounts f.old uses.old }
 {
-    let Some(binding) = match_there(alloc, f, block, place, rule)? else {
+    let Some(binding) = match_there(alloc, f, block, place, rule, false)? else {
         return Err(Unfit::NoMatch);
     };
     Ok(apply_at(alloc, f, &binding, rule, uses)?)

@@ -24,7 +24,7 @@ returns-clause-prints c = λ bytes is.
     let done = c.in_ok-done.done in
     let new = done.module in
     let forms : ModuleHasForms new =
-    c.optimised_modules_have_forms.ensures c.args.options.fold rules c.args.options.steps done.table read new done.counts done.limited c.requires.ready c.requires.source.checks
+    c.optimised_modules_have_forms.ensures c.args.options.fold c.args.options.across rules c.args.options.steps done.table read new done.counts done.limited c.requires.ready c.requires.source.checks
     c.requires.source.forms c.in_ok-done.ensures.strategy in
     record {
       new = new;

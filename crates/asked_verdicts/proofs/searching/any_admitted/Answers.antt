@@ -4,7 +4,7 @@ use Rattle.asked_verdicts.proofs.Sequence.{still_verdicts}
 use Rattle.asked_verdicts.proofs.searching.any_admitted.Goals as goal
 
 pub loop-block-init : goal.loop-block-init
-loop-block-init c = no_block_asked c.args.rules.now.all.now c.args.conflicts c.args.f.now c.args.verdicts.now
+loop-block-init c = no_block_asked c.args.rules.now.across c.args.rules.now.all.now c.args.conflicts c.args.f.now c.args.verdicts.now
 
 pub any_in_block-requires-clause-asks : goal.any_in_block-requires-clause-asks
 any_in_block-requires-clause-asks c = c.ask_bits-asks.ensures.1
@@ -15,10 +15,10 @@ any_in_block-requires-clause-verdicts c =
 
 pub loop-block-preserved : goal.loop-block-preserved
 loop-block-preserved c =
-    next_block c.args.rules.now.all.now c.args.conflicts c.args.f.now c.loop-block.block c.args.verdicts.now c.loop-block.verdicts c.any_in_block.new.verdicts c.loop-block.any c.in_ok-admitted.admitted
+    next_block c.args.rules.now.across c.args.rules.now.all.now c.args.conflicts c.args.f.now c.loop-block.block c.args.verdicts.now c.loop-block.verdicts c.any_in_block.new.verdicts c.loop-block.any c.in_ok-admitted.admitted
     c.loop-block.invariant c.in_ok-admitted.ensures
 
 pub returns : goal.returns
 returns c =
-    whole_function c.args.rules.now.all.now c.args.conflicts c.args.f.now c.loop-block.block c.args.verdicts.now c.loop-block.verdicts c.loop-block.any c.requires.ready
+    whole_function c.args.rules.now.across c.args.rules.now.all.now c.args.conflicts c.args.f.now c.loop-block.block c.args.verdicts.now c.loop-block.verdicts c.loop-block.any c.requires.ready
     (omega (arith, c.len-block-end.ensures, c.loop-block-test.false)) c.loop-block.invariant

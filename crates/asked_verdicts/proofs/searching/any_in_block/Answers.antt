@@ -4,12 +4,12 @@ use Rattle.asked_verdicts.proofs.Sequence.{still_verdicts}
 use Rattle.asked_verdicts.proofs.searching.any_in_block.Goals as goal
 use Rattle.asked_verdicts.proofs.searching.any_in_block.Goals.{After-as_slice-matches}
 
-are_there : (c : After-as_slice-matches) → AreMatchesWhere c.args.rules.now.all.now c.args.f.now (IsAt c.args.block c.loop-place.place) c.as_slice-matches.result.now
-are_there c = subst (AreMatchesWhere c.args.rules.now.all.now c.args.f.now (IsAt c.args.block c.loop-place.place)) (sym c.as_slice-matches.ensures) c.in_ok-found.ensures
+are_there : (c : After-as_slice-matches) → AreMatchesWhere c.args.rules.now.across c.args.rules.now.all.now c.args.f.now (IsAt c.args.block c.loop-place.place) c.as_slice-matches.result.now
+are_there c = subst (AreMatchesWhere c.args.rules.now.across c.args.rules.now.all.now c.args.f.now (IsAt c.args.block c.loop-place.place)) (sym c.as_slice-matches.ensures) c.in_ok-found.ensures
 
 pub loop-place-init : goal.loop-place-init
 loop-place-init c = record {
-  asked = no_place_asked c.args.rules.now.all.now c.args.conflicts c.args.f.now c.args.block c.args.verdicts.now;
+  asked = no_place_asked c.args.rules.now.across c.args.rules.now.all.now c.args.conflicts c.args.f.now c.args.block c.args.verdicts.now;
   block = refl;
   few = λ k d lt. absurd (omega (arith, lt, ap length c.new.ensures));
   known = λ asks. c.new.ensures ∙ sym (results_none c.args.block);
@@ -22,7 +22,7 @@ matches_at-requires-clause-known c asks x =
 pub any_of-requires-clause-matches : goal.any_of-requires-clause-matches
 any_of-requires-clause-matches c =
     let are = are_there (goal.at.any_of-requires-clause-matches c).After-as_slice-matches in
-    (c.args.f.now, λ k d lt. (are.each k d lt).0)
+    (c.args.rules.now.across, c.args.f.now, λ k d lt. (are.each k d lt).0)
 
 pub any_of-requires-clause-verdicts : goal.any_of-requires-clause-verdicts
 any_of-requires-clause-verdicts c =
@@ -39,8 +39,8 @@ loop-place-preserved c =
     let after = c.any_of.new.verdicts in
     let admitted = c.in_ok-admitted.admitted in
     record {
-      asked = next_place rules conflicts f b k c.args.verdicts.now now after c.loop-place.any admitted c.loop-place.invariant.asked
-          (asks_these rules conflicts f (IsAt b k) c.as_slice-matches.result.now now after admitted (are_there (goal.at.loop-place-preserved c).After-as_slice-matches) c.in_ok-admitted.ensures.asks c.in_ok-admitted.ensures.answer);
+      asked = next_place c.args.rules.now.across rules conflicts f b k c.args.verdicts.now now after c.loop-place.any admitted c.loop-place.invariant.asked
+          (asks_these c.args.rules.now.across rules conflicts f (IsAt b k) c.as_slice-matches.result.now now after admitted (are_there (goal.at.loop-place-preserved c).After-as_slice-matches) c.in_ok-admitted.ensures.asks c.in_ok-admitted.ensures.answer);
       block = c.note_result.ensures.block ∙ c.loop-place.invariant.block;
       few = c.in_ok-note_result.ensures.few;
       known = λ asks. rw c.loop-place.invariant.block at (c.in_ok-note_result.ensures.results asks);
@@ -51,5 +51,5 @@ note_result-requires-clause-results c asks = rw c.loop-place.invariant.block (c.
 
 pub returns : goal.returns
 returns c =
-    whole_block c.args.rules.now.all.now c.args.conflicts c.args.f.now c.args.block c.loop-place.place c.args.verdicts.now c.loop-place.verdicts c.loop-place.any c.requires.ready
+    whole_block c.args.rules.now.across c.args.rules.now.all.now c.args.conflicts c.args.f.now c.args.block c.loop-place.place c.args.verdicts.now c.loop-place.verdicts c.loop-place.any c.requires.ready
     (omega (arith, c.end_of-place-end.ensures, c.loop-place-test.false)) c.loop-place.invariant.asked

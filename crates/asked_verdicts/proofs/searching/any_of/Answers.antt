@@ -5,14 +5,14 @@ use Rattle.asked_verdicts.proofs.Sequence.{still_verdicts}
 use Rattle.asked_verdicts.proofs.searching.any_of.Goals as goal
 use Rattle.asked_verdicts.proofs.searching.any_of.Goals.{After-asking-item}
 
-is_match : (c : After-asking-item) → IsMatchAmong c.args.rules.now c.requires.matches.0 c.asking-item.result
-is_match c = match_at c.args.rules.now c.requires.matches.0 c.args.matches.now c.loop-asking.asking-index c.asking-item.result c.requires.matches.1 c.loop-asking-test.true c.asking-item.is
+is_match : (c : After-asking-item) → IsMatchAmong c.requires.matches.0 c.args.rules.now c.requires.matches.1 c.asking-item.result
+is_match c = match_at c.args.rules.now c.requires.matches.1 c.args.matches.now c.loop-asking.asking-index c.asking-item.result c.requires.matches.2 c.loop-asking-test.true c.asking-item.is
 
 pub admits-requires-clause-place : goal.admits-requires-clause-place
-admits-requires-clause-place c = rule_within c.args.rules.now c.requires.matches.0 c.asking-item.result (is_match (goal.at.admits-requires-clause-place c).After-asking-item)
+admits-requires-clause-place c = rule_within c.args.rules.now c.requires.matches.1 c.asking-item.result (is_match (goal.at.admits-requires-clause-place c).After-asking-item)
 
 pub admits-requires-clause-rule : goal.admits-requires-clause-rule
-admits-requires-clause-rule c = rule_of c.args.rules.now c.requires.matches.0 c.asking-item.result c.requires.ready (is_match (goal.at.admits-requires-clause-rule c).After-asking-item)
+admits-requires-clause-rule c = rule_of c.args.rules.now c.requires.matches.1 c.asking-item.result c.requires.ready (is_match (goal.at.admits-requires-clause-rule c).After-asking-item)
 
 pub admits-requires-clause-verdicts : goal.admits-requires-clause-verdicts
 admits-requires-clause-verdicts c = still_verdicts c.args.rules.now c.args.conflicts (map pair_of (take c.loop-asking.asking-index c.args.matches.now)) c.args.verdicts.now c.loop-asking.verdicts c.requires.verdicts c.loop-asking.invariant.asks

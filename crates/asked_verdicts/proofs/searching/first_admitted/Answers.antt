@@ -5,14 +5,14 @@ use Rattle.asked_verdicts.proofs.Sequence.{still_verdicts}
 use Rattle.asked_verdicts.proofs.searching.first_admitted.Goals as goal
 use Rattle.asked_verdicts.proofs.searching.first_admitted.Goals.{After-index-matches-place}
 
-is_match : (c : After-index-matches-place) → IsMatchInAnyOrder c.requires.matches.0 c.args.rules.now c.requires.matches.1 c.index-matches-place.result
-is_match c = match_at c.args.rules.now c.requires.matches.1 c.args.matches.now c.loop-place.place c.index-matches-place.result c.requires.matches.2 c.loop-place-test.true c.index-matches-place.is
+is_match : (c : After-index-matches-place) → IsMatchInAnyOrder c.requires.matches.0 c.requires.matches.1 c.args.rules.now c.requires.matches.2 c.index-matches-place.result
+is_match c = match_at c.args.rules.now c.requires.matches.2 c.args.matches.now c.loop-place.place c.index-matches-place.result c.requires.matches.3 c.loop-place-test.true c.index-matches-place.is
 
 pub admits-requires-clause-place : goal.admits-requires-clause-place
-admits-requires-clause-place c = rule_within c.args.rules.now c.requires.matches.1 c.index-matches-place.result (is_match (goal.at.admits-requires-clause-place c).After-index-matches-place)
+admits-requires-clause-place c = rule_within c.args.rules.now c.requires.matches.2 c.index-matches-place.result (is_match (goal.at.admits-requires-clause-place c).After-index-matches-place)
 
 pub admits-requires-clause-rule : goal.admits-requires-clause-rule
-admits-requires-clause-rule c = rule_of c.args.rules.now c.requires.matches.1 c.index-matches-place.result c.requires.ready (is_match (goal.at.admits-requires-clause-rule c).After-index-matches-place)
+admits-requires-clause-rule c = rule_of c.args.rules.now c.requires.matches.2 c.index-matches-place.result c.requires.ready (is_match (goal.at.admits-requires-clause-rule c).After-index-matches-place)
 
 pub admits-requires-clause-verdicts : goal.admits-requires-clause-verdicts
 admits-requires-clause-verdicts c = still_verdicts c.args.rules.now c.args.conflicts (map pair_of (take c.loop-place.place c.args.matches.now)) c.args.verdicts.now c.loop-place.verdicts c.requires.verdicts c.loop-place.invariant.asks

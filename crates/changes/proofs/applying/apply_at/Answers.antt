@@ -6,7 +6,7 @@ pub apply-requires-clause-checks : goal.apply-requires-clause-checks
 apply-requires-clause-checks c = subst (λ (g : Function). MeetsChecks g) (sym c.in_ok-new.ensures) c.requires.checks
 
 pub apply-requires-clause-matches : goal.apply-requires-clause-matches
-apply-requires-clause-matches c = subst (λ (g : Function). IsMatch g c.args.binding.now.block c.args.binding.now.place c.args.rule.now c.args.binding.now) (sym c.in_ok-new.ensures) c.requires.matches
+apply-requires-clause-matches c = (c.requires.matches.0, subst (λ (g : Function). IsMatch c.requires.matches.0 g c.args.binding.now.block c.args.binding.now.place c.args.rule.now c.args.binding.now) (sym c.in_ok-new.ensures) c.requires.matches.1)
 
 pub apply-requires-clause-places : goal.apply-requires-clause-places
 apply-requires-clause-places c = λ block at. c.requires.places block (subst (λ (g : Function). IsBlock g c.args.binding.now.block block) c.in_ok-new.ensures at)
@@ -27,7 +27,7 @@ pub count_uses-requires-clause-registers : goal.count_uses-requires-clause-regis
 count_uses-requires-clause-registers c =
     let f = c.args.f.now in
     let is = applied_to f c.in_ok-new.new c.apply.new.f c.args.rule.now c.args.binding.now c.in_ok-new.ensures c.in_ok-apply.ensures.ok in
-    (checks_new f c.apply.new.f c.args.rule.now c.args.binding.now c.requires.rule is c.requires.checks c.requires.numbers c.requires.matches).formed.registers
+    (checks_new f c.apply.new.f c.args.rule.now c.args.binding.now c.requires.rule is c.requires.matches.0 c.requires.checks c.requires.numbers c.requires.matches.1).formed.registers
 
 pub changes_of-requires-clause-places : goal.changes_of-requires-clause-places
 changes_of-requires-clause-places c =

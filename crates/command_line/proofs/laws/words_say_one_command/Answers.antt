@@ -52,9 +52,10 @@ verify_options x y widths conflicts logs =
 recheck_options : (x y : RecheckOptions) → x.conflicts ≡ y.conflicts → x ≡ y
 recheck_options x y conflicts = ap (λ (n : ℕ). record { conflicts = n }) conflicts
 
-optimise_options : (x y : OptimiseOptions) → x.conflicts ≡ y.conflicts → x.steps ≡ y.steps → x.fold ≡ y.fold → x ≡ y
-optimise_options x y conflicts steps fold =
-    ap₂ (λ (m n : ℕ). record { conflicts = m; steps = n; fold = x.fold }) conflicts steps ∙ ap (λ (b : Bool). record { conflicts = y.conflicts; steps = y.steps; fold = b }) fold
+optimise_options : (x y : OptimiseOptions) → x.conflicts ≡ y.conflicts → x.steps ≡ y.steps → x.fold ≡ y.fold → x.across ≡ y.across → x ≡ y
+optimise_options x y conflicts steps fold across =
+    ap₂ (λ (m n : ℕ). record { conflicts = m; steps = n; fold = x.fold; across = x.across }) conflicts steps
+    ∙ ap₂ (λ (b c : Bool). record { conflicts = y.conflicts; steps = y.steps; fold = b; across = c }) fold across
 
 run_options : (x y : RunOptions) → x.blocks ≡ y.blocks → x ≡ y
 run_options x y blocks = ap (λ (n : ℕ). record { blocks = n }) blocks
@@ -66,7 +67,7 @@ one (Some said) (Verify rules options) (Verify rules' options') h k =
     let y = k.1.width_list in
     (same h.1.rules_file k.1.rules_file, verify_options options options' (x.2.1 ∙ (ap widths_named (same x.1 y.1) ∙ sym y.2.1)) (same h.1.most_conflicts k.1.most_conflicts) (same_flag options.logs options'.logs (same h.1.asks_logs k.1.asks_logs)))
 one (Some said) (Optimise rules source logs options) (Optimise rules' source' logs' options') h k =
-    (same h.1.rules_file k.1.rules_file, same h.1.module_file k.1.module_file, sym h.1.logs_file ∙ k.1.logs_file, optimise_options options options' (same h.1.most_conflicts k.1.most_conflicts) (same h.1.most_steps k.1.most_steps) (same_flag options.fold options'.fold (same h.1.asks_fold k.1.asks_fold)))
+    (same h.1.rules_file k.1.rules_file, same h.1.module_file k.1.module_file, sym h.1.logs_file ∙ k.1.logs_file, optimise_options options options' (same h.1.most_conflicts k.1.most_conflicts) (same h.1.most_steps k.1.most_steps) (same_flag options.fold options'.fold (same h.1.asks_fold k.1.asks_fold)) (same_flag options.across options'.across (same h.1.asks_across k.1.asks_across)))
 one (Some said) (Run source name arguments options) (Run source' name' arguments' options') h k =
     (same h.1.module_file k.1.module_file, same h.1.function_name k.1.function_name, sym h.1.function_arguments ∙ k.1.function_arguments, run_options options options' (same h.1.most_blocks k.1.most_blocks))
 one (Some said) (Load number) (Load number') h k = same h.1 k.1

@@ -14,12 +14,12 @@ pub loop-rule-preserved : goal.loop-rule-preserved
 loop-rule-preserved c =
     let rules = c.args.rules.now.all.now in
     let places = c.at-rule-items.result.now in
-    next_rule (known_by c.args.known.now) rules c.args.f.now c.args.block c.args.place places c.loop-rule.rule-index (get_or places c.loop-rule.rule-index 0)
+    next_rule c.args.rules.now.across (known_by c.args.known.now) rules c.args.f.now c.args.block c.args.place places c.loop-rule.rule-index (get_or places c.loop-rule.rule-index 0)
     c.loop-rule.found c.push_if_any.new.found (option_to_list c.in_ok-matched.matched)
     c.loop-rule-test.true refl (c.at-rule-items.ensures rules c.requires.by_root).in_order c.loop-rule.invariant c.in_ok-push_if_any.ensures c.in_ok-matched.ensures
 
 pub returns : goal.returns
 returns c =
     let rules = c.args.rules.now.all.now in
-    each_rule (known_by c.args.known.now) rules c.args.f.now c.args.block c.args.place c.inst_at-inst.result.now c.at-rule-items.result.now c.loop-rule.rule-index
+    each_rule c.args.rules.now.across (known_by c.args.known.now) rules c.args.f.now c.args.block c.args.place c.inst_at-inst.result.now c.at-rule-items.result.now c.loop-rule.rule-index
     c.loop-rule.found c.requires.ready c.inst_at-inst.ensures (c.at-rule-items.ensures rules c.requires.by_root) c.loop-rule-test.false c.loop-rule.invariant

@@ -5,14 +5,14 @@ use Rattle.draft_steps.proofs.OneStep.{root_stands}
 use Rattle.strategy.proofs.folding.may_choose.Goals as goal
 
 pub bounds-rules-chosen : goal.bounds-rules-chosen
-bounds-rules-chosen c = slice_get_within c.args.rules.now c.args.chosen.now.rule c.requires.matches.rule c.requires.matches.is_rule
+bounds-rules-chosen c = slice_get_within c.args.rules.now c.args.chosen.now.rule c.requires.matches.1.rule c.requires.matches.1.is_rule
 
 pub is_unread_at_ends-requires-clause-root : goal.is_unread_at_ends-requires-clause-root
 is_unread_at_ends-requires-clause-root c =
     let d = c.args.draft.now in
     let m = c.args.chosen.now in
-    let (rule, typed, matches) = ready_there c.args.rules.now (function_of d) (placed_match d m) c.index-rules-chosen.result c.requires.ready c.requires.matches c.index-rules-chosen.is in
-    stands_there d c.requires.settled.whole m.binding.block m.binding.place (root_stands c.reads_of_a_block_stand_before.ensures d c.requires.settled c.index-rules-chosen.result m.binding c.requires.checks rule matches)
+    let (rule, typed, matches) = ready_there c.args.rules.now (function_of d) (placed_match d m) c.index-rules-chosen.result c.requires.ready c.requires.matches.1 c.index-rules-chosen.is in
+    stands_there d c.requires.settled.whole m.binding.block m.binding.place (root_stands d c.requires.settled c.index-rules-chosen.result m.binding c.requires.checks rule matches)
 
 pub returns-then-not-may_put_number : goal.returns-then-not-may_put_number
 returns-then-not-may_put_number c none =
@@ -22,7 +22,7 @@ pub returns : goal.returns
 returns c kept =
     let d = c.args.draft.now in
     let m = c.args.chosen.now in
-    let (rule, typed, matches) = ready_there c.args.rules.now (function_of d) (placed_match d m) c.index-rules-chosen.result c.requires.ready c.requires.matches c.index-rules-chosen.is in
+    let (rule, typed, matches) = ready_there c.args.rules.now (function_of d) (placed_match d m) c.index-rules-chosen.result c.requires.ready c.requires.matches.1 c.index-rules-chosen.is in
     unread_keeps c.args.rules.now d m c.index-rules-chosen.result c.index-rules-chosen.is c.requires.settled
-    (root_stands c.reads_of_a_block_stand_before.ensures d c.requires.settled c.index-rules-chosen.result m.binding c.requires.checks rule matches)
+    (root_stands d c.requires.settled c.index-rules-chosen.result m.binding c.requires.checks rule matches)
     (c.is_unread_at_ends.ensures (is_true c.is_unread_at_ends.result kept))

@@ -2,10 +2,10 @@ use Rattle.strategy.proofs.Common.{◌≡◌, ◌<◌, List, length, None, Some,
 use Rattle.strategy.proofs.frontier.admitted_at.Goals as goal
 use Rattle.strategy.proofs.frontier.admitted_at.Goals.{After-as_slice-matches, In-Some}
 
-are_there : (c : After-as_slice-matches) → AreMatchesInAnyOrder (known_by c.args.known.now) c.args.rules.now.all.now (arena_of c.args.draft.now) (IsAt c.args.place.block c.args.place.number) c.as_slice-matches.result.now
+are_there : (c : After-as_slice-matches) → AreMatchesInAnyOrder c.args.rules.now.across (known_by c.args.known.now) c.args.rules.now.all.now (arena_of c.args.draft.now) (IsAt c.args.place.block c.args.place.number) c.as_slice-matches.result.now
 are_there c =
-    subst (λ (f : Function). AreMatchesInAnyOrder (known_by c.args.known.now) c.args.rules.now.all.now f (IsAt c.args.place.block c.args.place.number) c.as_slice-matches.result.now) c.arena.ensures
-    (subst (AreMatchesInAnyOrder (known_by c.args.known.now) c.args.rules.now.all.now c.arena.result.now (IsAt c.args.place.block c.args.place.number)) (sym c.as_slice-matches.ensures) c.in_ok-found.ensures)
+    subst (λ (f : Function). AreMatchesInAnyOrder c.args.rules.now.across (known_by c.args.known.now) c.args.rules.now.all.now f (IsAt c.args.place.block c.args.place.number) c.as_slice-matches.result.now) c.arena.ensures
+    (subst (AreMatchesInAnyOrder c.args.rules.now.across (known_by c.args.known.now) c.args.rules.now.all.now c.arena.result.now (IsAt c.args.place.block c.args.place.number)) (sym c.as_slice-matches.ensures) c.in_ok-found.ensures)
 
 pub matches_in_any_order-requires-clause-insts : goal.matches_in_any_order-requires-clause-insts
 matches_in_any_order-requires-clause-insts c =
@@ -20,7 +20,7 @@ matches_in_any_order-requires-clause-facts c = subst (λ (f : Function). AreFact
 pub first_admitted-requires-clause-matches : goal.first_admitted-requires-clause-matches
 first_admitted-requires-clause-matches c =
     let are = are_there (goal.at.first_admitted-requires-clause-matches c).After-as_slice-matches in
-    (known_by c.args.known.now, arena_of c.args.draft.now, λ k d lt. (are.each k d lt).0)
+    (c.args.rules.now.across, known_by c.args.known.now, arena_of c.args.draft.now, λ k d lt. (are.each k d lt).0)
 
 asks_to : (c : In-Some) → AsksToPlace c.args.rules.now.all.now c.args.conflicts c.as_slice-matches.result.now c.args.verdicts.now c.first_admitted.new.verdicts (Some c.in-Some.first)
 asks_to c = subst (AsksToPlace c.args.rules.now.all.now c.args.conflicts c.as_slice-matches.result.now c.args.verdicts.now c.first_admitted.new.verdicts) c.in-Some.is c.in_ok-admitted.ensures

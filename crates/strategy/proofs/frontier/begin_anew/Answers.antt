@@ -3,6 +3,9 @@ use Rattle.places.specs.Orders.{none}
 use Rattle.strategy.proofs.Requeueing.{room_left}
 use Rattle.strategy.proofs.frontier.begin_anew.Goals as goal
 
+pub rewritten_at-requires-clause-matches : goal.rewritten_at-requires-clause-matches
+rewritten_at-requires-clause-matches c = (c.args.rules.now.across, c.requires.matches)
+
 pub tidy_checked-requires-clause-countable : goal.tidy_checked-requires-clause-countable
 tidy_checked-requires-clause-countable c = c.in_ok-f.ensures.countable 0 c.requires.countable
 
@@ -17,6 +20,9 @@ of-requires-clause-insts c k x lt =
 pub returns-clause-stepped : goal.returns-clause-stepped
 returns-clause-stepped c =
     (c.in_ok-f.f, subst (IsTidied true c.in_ok-f.f) (sym c.in_ok-made.ensures.function) c.in_ok-tidy_checked.ensures.tidied, c.in_ok-f.ensures.rewritten)
+
+pub returns-clause-frontier : goal.returns-clause-frontier
+returns-clause-frontier c table = c.in_ok-made.ensures.frontier c.args.rules.now.across table
 
 pub returns-clause-checks : goal.returns-clause-checks
 returns-clause-checks c = subst MeetsChecks (sym c.in_ok-made.ensures.function) c.in_ok-tidy_checked.ensures.checks

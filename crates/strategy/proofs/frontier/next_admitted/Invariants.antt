@@ -9,6 +9,6 @@ decreases-loop-place l = size_of l.worklist
 abbrev pub invariant-loop-place : goal.invariant-loop-place
 invariant-loop-place l = record {
   worklist : IsWorklistOf l.draft l.worklist;
-  others : AreTurnedDownBut l.rules.all.now l.verdicts.table Nowhere l.draft l.bits (members_of l.worklist);
-  gone : Gone l.rules.all.now l.conflicts l.draft l.fn.verdicts l.verdicts (members_of l.worklist);
+  others : AreTurnedDownBut l.rules.across l.rules.all.now l.verdicts.table Nowhere l.draft l.bits (members_of l.worklist);
+  gone : Gone l.rules.across l.rules.all.now l.conflicts l.draft l.fn.verdicts l.verdicts (members_of l.worklist);
 }

@@ -5,6 +5,9 @@ use Rattle.strategy.proofs.KeptBits.{bits_before, bits_stay, knows_still}
 use Rattle.strategy.proofs.Requeueing.{same_function, still_down}
 use Rattle.strategy.proofs.frontier.rewrite_and_clean.Goals as goal
 
+pub rewrite_draft-requires-clause-matches : goal.rewrite_draft-requires-clause-matches
+rewrite_draft-requires-clause-matches c = (c.args.rules.now.across, c.requires.matches)
+
 pub update-requires-clause-bits : goal.update-requires-clause-bits
 update-requires-clause-bits c =
     let old = c.args.frontier.draft in
@@ -24,7 +27,7 @@ insert_reaching-requires-clause-worklist c =
     c.orders_are_kept.ensures.queues (orders_of c.args.frontier.draft) (orders_of c.in_ok-rewritten.rewritten) c.args.frontier.worklist c.in_ok-rewritten.ensures.orders c.requires.worklist
 
 pub insert_reaching-requires-clause-places : goal.insert_reaching-requires-clause-places
-insert_reaching-requires-clause-places c = subst (All (IsPlaceIn (arena_of c.in_ok-rewritten.rewritten))) (sym c.as_slice.ensures.value) c.in_ok-bits.ensures.places
+insert_reaching-requires-clause-places c = subst (All (IsPlaceIn (arena_of c.in_ok-rewritten.rewritten))) (sym c.as_slice-places.ensures.value) c.in_ok-bits.ensures.places
 
 pub returns-clause-stepped : goal.returns-clause-stepped
 returns-clause-stepped c =
@@ -35,7 +38,8 @@ returns-clause-stepped c =
 
 pub returns-clause-frontier : goal.returns-clause-frontier
 returns-clause-frontier c table others =
-    let rules = c.args.rules.now in
+    let across = c.args.rules.now.across in
+    let rules = c.args.rules.now.all.now in
     let old = c.args.frontier.draft in
     let new = c.in_ok-rewritten.rewritten in
     let last = c.in_ok-waiting.last in
@@ -60,7 +64,7 @@ returns-clause-frontier c table others =
         | inr none ↦ inr (none.0, c.in_ok-bits.ensures.none none.1)
       ];
       few = c.in_ok-bits.ensures.few;
-      turned_down = still_down c.matches_of_the_untouched.ensures rules c.requires.ready old new last was now changed c.args.frontier.depth c.requires.depth settled
+      turned_down = still_down across c.matches_of_the_untouched.ensures rules c.requires.ready old new last was now changed c.args.frontier.depth c.requires.depth settled
           (λ b n stands free. c.in_ok-rewritten.ensures.touched b n stands (λ has. free (c.in_ok-bits.ensures.touched (record { block = b; number = n }) has)))
           reached
           (λ asks. elim c.requires.bits [
@@ -68,7 +72,7 @@ returns-clause-frontier c table others =
             | inr none ↦ absurd (none.0 asks)
           ])
           c.in_ok-waiting.ensures.draft.arena (same_numbers c.in_ok-rewritten.rewritten c.in_ok-waiting.last c.in_ok-waiting.ensures.draft) (members_of c.args.frontier.worklist) (members_of c.in_ok-waiting.waiting) c.in_ok-waiting.ensures.stay
-          (λ b n m has. c.in_ok-waiting.ensures.reaching (record { block = b; number = m }) n (subst (λ (l : List Place). Contains l (record { block = b; number = m })) (sym c.as_slice.ensures.value) has))
+          (λ b n e m has. c.in_ok-waiting.ensures.reaching (record { block = e; number = m }) b n (subst (λ (l : List Place). Contains l (record { block = e; number = m })) (sym c.as_slice-places.ensures.value) has))
           (PlaceOf chosen)
           (λ b n of. c.in_ok-bits.ensures.touched (record { block = b; number = n })
           (subst (λ (x : ℕ). Contains touched (record { block = b; number = x })) of.1 (subst (λ (x : ℕ). Contains touched (record { block = x; number = chosen.binding.place })) of.0 c.in_ok-rewritten.ensures.root)))

@@ -2,6 +2,9 @@ use Rattle.strategy.proofs.Common.{function_of, placed_match}
 use Rattle.strategy.proofs.StayingFolded.{stays_folded, tidied_alone}
 use Rattle.strategy.proofs.frontier.rewrite_and_fold.Goals as goal
 
+pub may_choose-requires-clause-matches : goal.may_choose-requires-clause-matches
+may_choose-requires-clause-matches c = (c.args.rules.now.across, c.requires.matches)
+
 pub returns-clause-stepped : goal.returns-clause-stepped
 returns-clause-stepped c =
     let stepped = c.in_ok-next.ensures.stepped in

@@ -9,6 +9,7 @@ plain_strategy-requires-clause-ready c = all_ready c.args.rules.now c.requires.r
 
 pub returns : goal.returns
 returns c =
+    let across = c.args.options.now.across in
     let rules = c.args.rules.now in
     let steps = c.args.options.now.steps in
     let fold = c.args.options.now.fold in
@@ -21,8 +22,8 @@ returns c =
       strategy = made;
       honest = honest;
       unrefuted = c.in_ok-done.ensures.unrefuted;
-      refines = c.every_optimised_module_refines_the_old.ensures.refines fold rules steps done.table old done.module done.counts done.limited ready (admitted_are_valid rules c.args.options.now.conflicts done.table honest) c.requires.checks c.requires.numbers made;
-      checks = c.every_optimised_module_refines_the_old.ensures.checks fold rules steps done.table old done.module done.counts done.limited ready c.requires.checks c.requires.numbers made;
-      numbers = c.every_optimised_module_refines_the_old.ensures.numbers fold rules steps done.table old done.module done.counts done.limited ready c.requires.checks c.requires.numbers made;
-      decided = c.every_match_left_is_decided.ensures fold rules steps done.table old done.module done.counts done.limited made;
+      refines = c.every_optimised_module_refines_the_old.ensures.refines fold across rules steps done.table old done.module done.counts done.limited ready (admitted_are_valid rules c.args.options.now.conflicts done.table honest) c.requires.checks c.requires.numbers made;
+      checks = c.every_optimised_module_refines_the_old.ensures.checks fold across rules steps done.table old done.module done.counts done.limited ready c.requires.checks c.requires.numbers made;
+      numbers = c.every_optimised_module_refines_the_old.ensures.numbers fold across rules steps done.table old done.module done.counts done.limited ready c.requires.checks c.requires.numbers made;
+      decided = c.every_match_left_is_decided.ensures fold across rules steps done.table old done.module done.counts done.limited made;
     }

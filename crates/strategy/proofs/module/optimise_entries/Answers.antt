@@ -5,7 +5,7 @@ use Rattle.strategy.proofs.module.optimise_entries.Goals as goal
 
 pub loop-entry-init : goal.loop-entry-init
 loop-entry-init c =
-    rw c.new-made.ensures (none_entered c.args.options.fold c.args.rules.now.all.now c.args.options.conflicts c.args.options.steps c.args.verdicts.now c.args.all.now)
+    rw c.new-made.ensures (none_entered c.args.options.fold c.args.rules.now.across c.args.rules.now.all.now c.args.options.conflicts c.args.options.steps c.args.verdicts.now c.args.all.now)
 
 pub optimise_entry-requires-clause-entry : goal.optimise_entry-requires-clause-entry
 optimise_entry-requires-clause-entry c =
@@ -19,6 +19,7 @@ optimise_entry-requires-clause-asks c =
 
 pub loop-entry-preserved : goal.loop-entry-preserved
 loop-entry-preserved c =
+    let across = c.args.rules.now.across in
     let rules = c.args.rules.now.all.now in
     let conflicts = c.args.options.conflicts in
     let steps = c.args.options.steps in
@@ -31,11 +32,11 @@ loop-entry-preserved c =
     let first = c.args.all.now in
     let all = c.loop-entry.all in
     let all' = c.optimise_entry.new.all in
-    let one = subst (λ (e : Entry). OptimisesEntry c.args.options.fold rules conflicts steps e made now after all all') c.entry-item.is c.in_ok-optimised.ensures in
-    subst (λ (l : List Entry). OptimisesEntries c.args.options.fold rules conflicts steps (take (place + 1) old) l before after first all') (sym c.in_ok-push.ensures.ok)
-    (one_entered c.args.options.fold rules conflicts steps place old c.loop-entry.made c.entry-item.result made before now after first all all' c.loop-entry-test.true c.loop-entry.invariant one)
+    let one = subst (λ (e : Entry). OptimisesEntry c.args.options.fold across rules conflicts steps e made now after all all') c.entry-item.is c.in_ok-optimised.ensures in
+    subst (λ (l : List Entry). OptimisesEntries c.args.options.fold across rules conflicts steps (take (place + 1) old) l before after first all') (sym c.in_ok-push.ensures.ok)
+    (one_entered c.args.options.fold across rules conflicts steps place old c.loop-entry.made c.entry-item.result made before now after first all all' c.loop-entry-test.true c.loop-entry.invariant one)
 
 pub returns : goal.returns
 returns c =
-    subst (λ (l : List Entry). OptimisesEntries c.args.options.fold c.args.rules.now.all.now c.args.options.conflicts c.args.options.steps l c.loop-entry.made c.args.verdicts.now c.loop-entry.verdicts c.args.all.now c.loop-entry.all)
+    subst (λ (l : List Entry). OptimisesEntries c.args.options.fold c.args.rules.now.across c.args.rules.now.all.now c.args.options.conflicts c.args.options.steps l c.loop-entry.made c.args.verdicts.now c.loop-entry.verdicts c.args.all.now c.loop-entry.all)
     (take_all c.loop-entry.entry-index c.args.entries.now (omega arith)) c.loop-entry.invariant

@@ -1,28 +1,28 @@
-use Rattle.draft_steps.proofs.Common.{◌≡◌, ℕ, ◌+◌, ◌<◌, inl, inr, List, Contains, length, refl, sym, ap, subst, ◌∙◌, arith, cases_eq, get_or_default, Function, Stands, nowhere, place_at, IsPlaceIn, IsReader, Came, CameOnlyTo, IsFurther, IsSameDraft, IsWalk, ReadsHere, Draft, Place, Walk, stands_there}
+use Rattle.draft_steps.proofs.Common.{◌≡◌, ℕ, ◌+◌, ◌<◌, inl, inr, Bool, List, Contains, length, sym, subst, ◌∙◌, arith, cases_eq, get_or_default, Function, IsInScope, holds, fails, Stands, nowhere, place_at, IsPlaceIn, IsReader, Came, CameOnlyTo, IsFurther, IsSameDraft, IsWalk, ReadsHere, Draft, Place, Walk, stands_there}
 use Rattle.ir_core.specs.declared.operand.Register.TheVariants as registers
 use Rattle.draft_steps.specs.Walks.{StandsAt}
 use Rattle.draft_steps.proofs.SameDrafts.{stays, stood}
 use Rattle.draft_steps.proofs.WalkDrafts.{place-among, walk-by}
 use Rattle.draft_steps.proofs.WalkSteps.{came-further, further-same, further-twice, only-more, only-twice}
 use Rattle.draft_steps.proofs.walk.Walk.come_to_readers.Goals as goal
-use Rattle.draft_steps.proofs.walk.Walk.come_to_readers.Goals.{then-reader-place+in_ok-come_to, else-reader-place}
+use Rattle.draft_steps.proofs.walk.Walk.come_to_readers.Goals.{then-is_in_scope+in_ok-come_to, else-is_in_scope}
 
--- this place is found, if an instruction of the block stands there
-abbrev CameIn : Draft → ℕ → Walk → Place → Type 0
-CameIn d b w p = p.block ≡ b → Stands d p.block p.number → Came w p.block p.number
+-- this place is found, if an instruction stands there in whose scope the other is
+abbrev CameIn : Bool → Draft → Place → Walk → Place → Type 0
+CameIn across d q w p = IsInScope across q.block q.number p.block p.number → Stands d p.block p.number → Came w p.block p.number
 
-one_more : (d : Draft) (b : ℕ) (places : List Place) (was now : Walk) (index : ℕ) → IsFurther was now → ((k : ℕ) → k < index → CameIn d b was (place_at places k)) → CameIn d b now (place_at places index)
-    → (k : ℕ) → k < index + 1 → CameIn d b now (place_at places k)
-one_more d b places was now index further so_far this k below = elim (cases_eq index k) [
-  | inl e ↦ subst (λ (i : ℕ). CameIn d b now (place_at places i)) e this
-  | inr ne ↦ λ same stands. came-further was now (place_at places k).block (place_at places k).number further (so_far k (omega arith) same stands)
+one_more : (across : Bool) (d : Draft) (q : Place) (places : List Place) (was now : Walk) (index : ℕ) → IsFurther was now → ((k : ℕ) → k < index → CameIn across d q was (place_at places k)) → CameIn across d q now (place_at places index)
+    → (k : ℕ) → k < index + 1 → CameIn across d q now (place_at places k)
+one_more across d q places was now index further so_far this k below = elim (cases_eq index k) [
+  | inl e ↦ subst (λ (i : ℕ). CameIn across d q now (place_at places i)) e this
+  | inr ne ↦ λ scope stands. came-further was now (place_at places k).block (place_at places k).number further (so_far k (omega arith) scope stands)
 ]
 
 -- a place that reads a register in the draft with trimmed use lists reads it in the draft as it was
-reads_here : (old new : Draft) (same : IsSameDraft old new) (place p : Place) → p.block ≡ place.block → IsReader new.arena (registers.Result place.block place.number) p
-    → (b n : ℕ) → StandsAt new p b n → ReadsHere old place b n
-reads_here old new same place p here reads b n (stands, is) = (
-  sym (ap (λ (q : Place). q.block) is) ∙ here,
+reads_here : (across : Bool) (old new : Draft) (same : IsSameDraft old new) (place p : Place) → IsInScope across place.block place.number p.block p.number → IsReader new.arena (registers.Result place.block place.number) p
+    → (b n : ℕ) → StandsAt new p b n → ReadsHere across old place b n
+reads_here across old new same place p scope reads b n (stands, is) = (
+  subst (λ (q : Place). IsInScope across place.block place.number q.block q.number) is scope,
   stood old new same b n stands,
   subst (λ (q : Place). IsReader old.arena (registers.Result place.block place.number) q) is (subst (λ (f : Function). IsReader f (registers.Result place.block place.number) p) same.arena reads),
 )
@@ -58,26 +58,26 @@ loop-reader-preserved c =
     let p : Place = place_at places l.reader-index in
     let within : l.reader-index < length places = omega arith in
     let reads = ((trimmed.exact p).0 (subst (λ (ps : List Place). Contains ps p) c.readers_of-reader-items.ensures.listed (place-among places l.reader-index within))).1 in
-    elim c.if-reader-place.branch [
-      | then-reader-place+in_ok-come_to w ↦
+    elim c.if-is_in_scope.branch [
+      | then-is_in_scope+in_ok-come_to w ↦
           let on = w.in_ok-come_to.ensures in
-          let further : IsFurther l.self c.if-reader-place.self = subst (IsFurther l.self) (sym w.self-is) on.further in
+          let further : IsFurther l.self c.if-is_in_scope.self = subst (IsFurther l.self) (sym w.self-is) on.further in
           record {
             walk = subst (IsWalk old) (sym w.self-is) (walk-by new old w.come_to.new.self (sym trimmed.arena) on.walk);
-            further = further-twice c.args.self.now l.self c.if-reader-place.self l.invariant.further further;
-            came = one_more old c.args.place.block places l.self c.if-reader-place.self l.reader-index further l.invariant.came
-                (λ here stands. subst (λ (s : Walk). Came s p.block p.number) (sym w.self-is) (on.came (stays old new same p.block p.number stands)));
-            only = only-twice (ReadsHere old c.args.place) c.args.self.now l.self c.if-reader-place.self l.invariant.only (subst (CameOnlyTo (ReadsHere old c.args.place) l.self) (sym w.self-is)
-                (only-more (StandsAt new p) (ReadsHere old c.args.place) l.self w.come_to.new.self (reads_here old new same c.args.place p w.if-reader-place.true reads) on.only));
+            further = further-twice c.args.self.now l.self c.if-is_in_scope.self l.invariant.further further;
+            came = one_more c.args.across old c.args.place places l.self c.if-is_in_scope.self l.reader-index further l.invariant.came
+                (λ scope stands. subst (λ (s : Walk). Came s p.block p.number) (sym w.self-is) (on.came (stays old new same p.block p.number stands)));
+            only = only-twice (ReadsHere c.args.across old c.args.place) c.args.self.now l.self c.if-is_in_scope.self l.invariant.only (subst (CameOnlyTo (ReadsHere c.args.across old c.args.place) l.self) (sym w.self-is)
+                (only-more (StandsAt new p) (ReadsHere c.args.across old c.args.place) l.self w.come_to.new.self (reads_here c.args.across old new same c.args.place p (holds c.is_in_scope.result c.is_in_scope.ensures w.if-is_in_scope.true) reads) on.only));
           }
-      | else-reader-place w ↦
-          let further : IsFurther l.self c.if-reader-place.self = subst (IsFurther l.self) (sym w.self-is) (further-same l.self) in
+      | else-is_in_scope w ↦
+          let further : IsFurther l.self c.if-is_in_scope.self = subst (IsFurther l.self) (sym w.self-is) (further-same l.self) in
           record {
             walk = subst (IsWalk old) (sym w.self-is) l.invariant.walk;
-            further = further-twice c.args.self.now l.self c.if-reader-place.self l.invariant.further further;
-            came = one_more old c.args.place.block places l.self c.if-reader-place.self l.reader-index further l.invariant.came
-                (λ here stands. absurd (w.if-reader-place.false here));
-            only = subst (CameOnlyTo (ReadsHere old c.args.place) c.args.self.now) (sym w.self-is) l.invariant.only;
+            further = further-twice c.args.self.now l.self c.if-is_in_scope.self l.invariant.further further;
+            came = one_more c.args.across old c.args.place places l.self c.if-is_in_scope.self l.reader-index further l.invariant.came
+                (λ scope stands. absurd (fails c.is_in_scope.result c.is_in_scope.ensures w.if-is_in_scope.false scope));
+            only = subst (CameOnlyTo (ReadsHere c.args.across old c.args.place) c.args.self.now) (sym w.self-is) l.invariant.only;
           }
     ]
 
@@ -96,15 +96,14 @@ pub returns-clause-walk : goal.returns-clause-walk
 returns-clause-walk c = walk-by c.args.draft.now c.trim_readers.new.self c.loop-reader.self c.trim_readers.ensures.arena c.loop-reader.invariant.walk
 
 pub returns-clause-came : goal.returns-clause-came
-returns-clause-came c = λ n stands reads.
+returns-clause-came c = λ b n scope stands reads.
     let old = c.args.draft.now in
-    let b : ℕ = c.args.place.block in
     let p : Place = record { block = b; number = n } in
     let places : List Place = c.readers_of-reader-items.result.now in
     let (block, at, within) = stands_there old c.requires.whole b n stands in
     let there : Contains places p = c.readers_of-reader-items.ensures.readers p
     (subst (λ (f : Function). IsPlaceIn f p) (sym c.trim_readers.ensures.arena) (block, at, inl within))
-    (subst (λ (f : Function). IsReader f (registers.Result b c.args.place.number) p) (sym c.trim_readers.ensures.arena) reads) in
+    (subst (λ (f : Function). IsReader f (registers.Result c.args.place.block c.args.place.number) p) (sym c.trim_readers.ensures.arena) reads) in
     let is : place_at places there.0 ≡ p = get_or_default places there.0 nowhere p there.1 ∙ there.2 in
     let inside = there.1 in
-    subst (λ (q : Place). CameIn old b c.loop-reader.self q) is (c.loop-reader.invariant.came there.0 (omega arith)) refl stands
+    subst (λ (q : Place). CameIn c.args.across old c.args.place c.loop-reader.self q) is (c.loop-reader.invariant.came there.0 (omega arith)) scope stands

@@ -31,10 +31,10 @@ loop-index-preserved c =
       walk = on.walk;
       further = further-twice first l.self new l.invariant.further on.further;
       came = λ k low below. elim (cases_eq l.index k) [
-        | inl e ↦ subst (λ (i : ℕ). ReadersCame old new (place_at first.found.items i)) e
-            (subst (ReadersCame old new) place_is (readers-by old l.draft l.invariant.draft new c.index-place.result.now on.came))
-        | inr ne ↦ λ n stands reads. came-further l.self new (place_at first.found.items k).block n on.further (l.invariant.came k low (omega arith) n stands reads)
+        | inl e ↦ subst (λ (i : ℕ). ReadersCame c.args.across old new (place_at first.found.items i)) e
+            (subst (ReadersCame c.args.across old new) place_is (readers-by c.args.across old l.draft l.invariant.draft new c.index-place.result.now on.came))
+        | inr ne ↦ λ b n scope stands reads. came-further l.self new b n on.further (l.invariant.came k low (omega arith) b n scope stands reads)
       ];
-      only = only-twice (ReadsOneOf old first.found.items) first l.self new l.invariant.only (only-more (ReadsHere l.draft c.index-place.result.now) (ReadsOneOf old first.found.items) l.self new
-          (λ b n reads. (c.index-place.result.now, among, reads-by old l.draft l.invariant.draft c.index-place.result.now b n reads)) on.only);
+      only = only-twice (ReadsOneOf c.args.across old first.found.items) first l.self new l.invariant.only (only-more (ReadsHere c.args.across l.draft c.index-place.result.now) (ReadsOneOf c.args.across old first.found.items) l.self new
+          (λ b n reads. (c.index-place.result.now, among, reads-by c.args.across old l.draft l.invariant.draft c.index-place.result.now b n reads)) on.only);
     }

@@ -8,6 +8,6 @@ invariant-loop-index l =
       draft : IsSameDraft l.initial.draft l.draft;
       walk : IsWalk l.draft l.self;
       further : IsFurther l.initial.self l.self;
-      came : (k : ℕ) → l.fn.from ≤ k → k < l.index → ReadersCame l.initial.draft l.self (place_at l.initial.self.found.items k);
-      only : CameOnlyTo (ReadsOneOf l.initial.draft l.initial.self.found.items) l.initial.self l.self;
+      came : (k : ℕ) → l.fn.from ≤ k → k < l.index → ReadersCame l.across l.initial.draft l.self (place_at l.initial.self.found.items k);
+      only : CameOnlyTo (ReadsOneOf l.across l.initial.draft l.initial.self.found.items) l.initial.self l.self;
     }

@@ -9,7 +9,7 @@ invariant-loop-level l =
       draft : IsSameDraft l.initial.draft l.draft;
       walk : IsWalk l.draft l.self;
       next : l.next ≤ length l.self.found.items;
-      read : (k : ℕ) → k < l.next → ReadersCame l.initial.draft l.self (place_at l.self.found.items k);
-      reached : (p : Place) (n : ℕ) → Contains l.places p → Stands l.initial.draft p.block n → Reaches l.initial.draft l._level p.block n p.number → Came l.self p.block n;
-      only : (b n : ℕ) → Came l.self b n → ReachesOneOf l.initial.draft l._level l.places b n;
+      read : (k : ℕ) → k < l.next → ReadersCame l.across l.initial.draft l.self (place_at l.self.found.items k);
+      reached : (p : Place) (b n : ℕ) → Contains l.places p → Stands l.initial.draft b n → Reaches l.across l.initial.draft l._level b n p.block p.number → Came l.self b n;
+      only : (b n : ℕ) → Came l.self b n → ReachesOneOf l.across l.initial.draft l._level l.places b n;
     }

@@ -38,9 +38,9 @@ pub returns-clause-stay : goal.returns-clause-stay
 returns-clause-stay c = subst (λ (w : WorklistView). (b n : ℕ) → Has w.marks b n → Has c.insert_all.new.waiting.marks b n) c.self.view_is c.in_ok-insert_all.ensures.stay
 
 pub returns-clause-reaching : goal.returns-clause-reaching
-returns-clause-reaching c = λ p n there stands reaches.
-    All-contains (λ (q : Place). Has c.insert_all.new.waiting.marks q.block q.number) c.as_slice-2.result.now (record { block = p.block; number = n }) c.in_ok-insert_all.ensures.places
-    (subst (λ l. Contains l (record { block = p.block; number = n })) (sym c.as_slice-2.ensures.value) (c.in_ok-reach.ensures.reached p n there stands reaches))
+returns-clause-reaching c = λ p b n there stands reaches.
+    All-contains (λ (q : Place). Has c.insert_all.new.waiting.marks q.block q.number) c.as_slice-2.result.now (record { block = b; number = n }) c.in_ok-insert_all.ensures.places
+    (subst (λ l. Contains l (record { block = b; number = n })) (sym c.as_slice-2.ensures.value) (c.in_ok-reach.ensures.reached p b n there stands reaches))
 
 pub returns-clause-only : goal.returns-clause-only
 returns-clause-only c = λ b n waits. elim (c.in_ok-insert_all.ensures.only b n waits) [
