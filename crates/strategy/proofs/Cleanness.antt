@@ -1,8 +1,11 @@
 -- In a cleaned function every result is live: none is left to remove.
-use Rattle.strategy.proofs.Common.{◌≡◌, ℕ, ◌+◌, true, List, [], ◌∷◌, map, Some, refl, sym, ap, subst, ◌∙◌, arith, Contains, slice_get, HasInst, IsBlock, IsKnown, MeetsChecks, end_of, Block, Function, Inst, Op, Binary, Compare, Unary, Select, Convert, Freeze, Phi, Operand, Register, Terminator, IsCleaned, KeepsNeeded, KeptMarks, kept_before, kept_block, kept_function, kept_insts, moved_end, moved_inst, moved_op, moved_operand, moved_register, IsNeeded, by_end, by_inst, ReadsRegister, operands_at_end, operands_of, IsKept, block_at, block_back, kept_at, kept_back, has_inst, end_reads, inst_reads, Contains-map, AllNeeded, inst_there, known_has, read_in_block, reads_written, written, written_reads}
+use Rattle.strategy.proofs.Common.{◌≡◌, ℕ, ◌+◌, true, List, [], ◌∷◌, map, Some, refl, sym, ap, subst, ◌∙◌, arith, Contains, slice_get, HasInst, IsBlock, IsKnown, MeetsChecks, end_of, Block, Function, Inst, Op, Binary, Compare, Unary, Select, Convert, Freeze, Phi, Operand, Register, Terminator, IsCleaned, KeepsNeeded, KeptMarks, kept_before, kept_block, kept_function, kept_insts, moved_end, moved_inst, moved_op, moved_operand, moved_register, IsNeeded, by_end, by_inst, ReadsRegister, operands_at_end, operands_of, IsKept, block_at, block_back, kept_at, kept_back, has_inst, end_reads, inst_reads, Contains-map, AllNeeded, Draft, IsSettled, function_of, numbers_of, inst_there, known_has, read_in_block, reads_written, written, written_reads}
 use Rattle.ir_core.specs.declared.operand.Operand.TheVariants as operands
 use Rattle.ir_core.specs.declared.operand.Register.TheVariants as registers
 use Rattle.ir_core.specs.declared.terminator.Terminator.TheVariants as terminators
+use Rattle.draft_steps.specs.DeadCode.{HasNoDeadCode}
+use Rattle.draft_steps.proofs.Needing.{keeps_needed}
+use Rattle.draft_steps.proofs.WholeRows.{settled_rows}
 
 entries_moved : (kept : KeptMarks) (entries : List (Operand × ℕ)) → map (λ (e : Operand × ℕ). e.0) (map (λ (e : Operand × ℕ). (moved_operand kept e.0, e.1)) entries) ≡ map (moved_operand kept) (map (λ (e : Operand × ℕ). e.0) entries)
 entries_moved kept [] = refl
@@ -81,3 +84,8 @@ module _ (f : Function) (checks : MeetsChecks f) (kept : KeptMarks) (needed : Ke
 
 pub cleaned_needed : (f g : Function) → MeetsChecks f → IsCleaned f g → AllNeeded g
 cleaned_needed f g checks cleaned = subst AllNeeded (sym cleaned.2) (kept_needed f checks cleaned.0 cleaned.1)
+
+-- what is live in the arena of a draft is live in its function
+pub drafted_needed : (d : Draft) → IsSettled d → HasNoDeadCode d → AllNeeded (function_of d)
+drafted_needed d settled clean b k has =
+    (keeps_needed d.arena (numbers_of d) (settled_rows d settled) (λ (c n : ℕ). true) (λ c n stands. (λ kept. clean c n stands, λ need. refl)) b k has).0 refl

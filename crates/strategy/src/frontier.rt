@@ -27,6 +27,7 @@ ghost use Rattle.strategy.specs.Frontiers.{AreTurnedDownBut, AsksAt, HasBitsFor,
 ghost use Rattle.strategy.specs.Searches.{OptimisesTidied, OptimisesFunction, StepsOrEnds};
 
 use crate::folding::{may_choose, rewritten_at};
+use crate::size::size_of;
 use crate::steps::{Options, Turns, tidy_checked};
 use asked_verdicts::{Verdicts, any_admitted, first_admitted};
 use bindings::{Match, ask_bits, asks_bits};
@@ -43,6 +44,10 @@ use rule_core::Rule;
 use rule_matches::{Rules, matches_in_any_order};
 use std::alloc::{AllocError, Global};
 
+/// So many instructions may be put into the draft of any function before it is made anew, so that a small function is
+/// not made anew at each step.
+const LEAST_LEFT: usize = 1_024;
+
 /// A function while it is rewritten, and the worklist.
 #[derive(Drop)]
 pub(crate) struct Frontier {
@@ -53,6 +58,8 @@ pub(crate) struct Frontier {
     worklist: DraftWorklist,
     /// The most steps from a root to an instruction on which a match stands, over all rules.
     depth: usize,
+    /// How many instructions may still be put into the draft before it is made anew.
+    left: usize,
 }
 
 /// Tidies a function, and rewrites and tidies it, at most as often as the steps say.
@@ -175,11 +182,13 @@ impl Frontier {
         ensures function { IfOk result (λ made. function_of made.draft ≡ f) }
         ensures arena { IfOk result (λ made. arena_of made.draft ≡ f) }
     {
+        let left = size_of(&f).max(rules.len()).max(LEAST_LEFT);
         let draft = Draft::of(alloc, f)?;
         Ok(Frontier {
             bits: bits_for(alloc, rules, &draft)?,
             worklist: DraftWorklist::all(alloc, &draft)?,
             depth: depth_of(rules),
+            left,
             draft,
         })
     }
@@ -260,8 +269,41 @@ fn step(
     let Some(chosen) = found else {
         return Ok((false, frontier));
     };
+    let put = rules.all[chosen.rule as usize].target.len();
     let rewritten = rewrite_at(alloc, frontier, rules, &chosen, options.fold)?;
-    Ok((true, rewritten))
+    let next = made_anew_where_full(alloc, rewritten, rules.all, put)?;
+    Ok((true, next))
+}
+
+/// After a step that put at most so many instructions: the same frontier, or one whose draft is made anew.
+///
+/// The arena keeps the numbers of instructions that were taken out. So a draft is made anew of its function once as
+/// many may have been put into it as that function was large: memory is linear in the largest function that there was,
+/// and not in the steps. To make one and to search it once more takes a time that is linear in the rules, in the
+/// function of which the last one was made, and in what was put since; and neither of the first two is more than that.
+/// So it costs each instruction that is put a constant time, on the average over all steps.
+fn made_anew_where_full(
+    alloc: Global,
+    frontier: Frontier,
+    rules: &[Rule],
+    put: usize,
+) -> Result<Frontier, AllocError>
+    requires settled { IsSettled frontier.draft }
+    requires clean { HasNoDeadCode frontier.draft }
+    requires checks { MeetsChecks (function_of frontier.draft) }
+    requires countable { IsCountable 0 (function_of frontier.draft) }
+    ensures function { IfOk result (λ made. function_of made.draft ≡ function_of frontier.draft) }
+    ensures frontier { IfOk result (λ made. (across : Bool) (table : Seq VerdictRow) → IsFrontier across rules.now table frontier → IsFrontier across rules.now table made) }
+    ensures room { IfOk result (λ made. (steps : ℕ) → HasRoomFor steps frontier.draft → IsCountable steps (function_of frontier.draft) → HasRoomFor steps made.draft) }
+{
+    if put < frontier.left {
+        let mut same = frontier;
+        same.left -= put;
+        return Ok(same);
+    }
+    let f = draft::function_of(alloc, frontier.draft)?;
+    let made = Frontier::of(alloc, f, rules)?;
+    Ok(made)
 }
 
 /// The first admitted match of a draft, in order. The verdicts of all matches up to it are asked for, or of all
@@ -510,6 +552,7 @@ fn rewrite_and_clean(
         bits,
         worklist,
         depth,
+        left,
     } = frontier;
     let (rewritten, touched) = rewrite_draft(alloc, draft, rules.all, chosen)?;
     let (bits, changed) = update(alloc, bits, &rewritten, touched)?;
@@ -520,6 +563,7 @@ fn rewrite_and_clean(
         bits,
         worklist: waiting,
         depth,
+        left,
     })
 }
 

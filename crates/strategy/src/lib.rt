@@ -8,6 +8,7 @@
 mod folding;
 mod frontier;
 mod module;
+mod size;
 mod steps;
 
 pub use asked_verdicts::StoredLogs;

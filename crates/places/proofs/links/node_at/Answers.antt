@@ -1,5 +1,0 @@
-use Rattle.places.proofs.Common.{get_or_default}
-use Rattle.places.proofs.links.node_at.Goals as goal
-
-pub returns : goal.returns
-returns c = get_or_default c.args.nodes.now c.args.number _ _ c.requires
