@@ -1,11 +1,12 @@
 //! Measures parts of the work: how modules are read, how sets of clauses are searched, and how rules are decided; and
 //! runs whole commands, so that each of their allocations can be refused in turn.
 //!
-//! Its words are `read MODULE`, `search SET [untimed]`, `verify RULES CONFLICTS [untimed | --dimacs FOLDER]` or `command
-//! WORD ..`; the modules `reading`, `searching`, `deciding` and `commands` say more. Without words it reads three modules
-//! that it generates, searches the pigeonhole set of 7 pigeons, decides the rules of `rules.alive` and the files of the
-//! library at widths 1 to 4, so that a rule that goes wrong changes a line, and runs a loop, without times. Its status is
-//! 0, or the command's; where it fails it is 10 or 11, which no command has, and a line on the error stream says why.
+//! Its words are `read MODULE`, `search SET [untimed]`, `verify RULES CONFLICTS [untimed | --dimacs FOLDER]` or
+//! `command WORD ..`; the modules `reading`, `searching`, `deciding` and `commands` say more. Without words it reads
+//! three modules that it generates, searches the pigeonhole set of 7 pigeons, decides the rules of `rules.alive` and
+//! the files of the library at widths 1 to 4, so that a rule that goes wrong changes a line, and runs a loop, without
+//! times. Its status is 0, or the command's; where it fails it is 10 or 11, which no command has, and a line on the
+//! error stream says why.
 #![tactic(auto)]
 
 mod commands;
