@@ -1,6 +1,6 @@
 """Random functions around rules that say something of bits: what the program writes for them beside two models.
 
-    python3 bench/random_known_bits.py PROGRAM FUNCTIONS SEED
+    python3 bench/random_known_bits.py FUNCTIONS SEED
 
 Modules of 50 functions with branches and loops are made around the sources of one to six rules, known ones and random
 ones, most of which hold only by what they say of bits: those have operands of which that is known, or nearly. After one
@@ -25,6 +25,7 @@ import tempfile
 sys.path.insert(0, os.path.dirname(os.path.abspath(__file__)))
 import random_rewrites
 from ir_model import functions_of, refines
+from program import alive, usage
 from random_rules import Maker
 from rewrite_model import Strategy, by_places, known_before, known_result, verdicts_of
 from rule_model import Rule, rules_of
@@ -384,8 +385,8 @@ class Writer(random_rewrites.Writer):
             self.bound[node[1]] = self.emit(there, 'freeze', [(width, name)], width) if self.chance(0.08) else name
         return super().operand(node, there)
 
-    def body(self, there):
-        super().body(there)
+    def body(self, there, first=0):
+        super().body(there, first)
         while self.chance(0.55):
             self.begin(*self.random.choice(self.rules))
             super().body(there)
@@ -611,4 +612,5 @@ def main(program, wanted, seed):
 
 
 if __name__ == '__main__':
-    sys.exit(main(sys.argv[1], int(sys.argv[2]), int(sys.argv[3])))
+    usage(__doc__)
+    sys.exit(main(alive(), int(sys.argv[1]), int(sys.argv[2])))

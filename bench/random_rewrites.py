@@ -1,12 +1,12 @@
 """Random functions around the sources of random rules: what the program writes for them beside what `ir_model.py` finds.
 
-    python3 bench/random_rewrites.py PROGRAM FUNCTIONS SEED [LLI]
+    python3 bench/random_rewrites.py FUNCTIONS SEED [LLI]
 
 Each rule that the program admits at some widths up to 3 is looked for in functions with branches and loops that are made around its
 source: at every argument (of at most 6 bits), every bound to 6 blocks and every choice the function that is written must refine the one
-read, after one step and after up to 20. Prints each function of which this is not so, and at the end how many there were, and how often
-they were rewritten. With LLI, LLVM's interpreter, 500 functions are run by it too, before and after, at arguments at which they return
-one number whatever is chosen. It gets the texts without the flags that its releases before 20 lack, and without the items of calls,
+read, after one step and after up to 20, with `--fold`, `--across`, both and neither. Prints each function of which this is not so, and at
+the end how many there were, and how often they were rewritten with neither. With LLI, LLVM's interpreter, 500 functions are run by it too, before and
+after, for 10 seconds at most, at arguments at which they return one number whatever is chosen. It gets the texts without the flags that its releases before 20 lack, and without the items of calls,
 which the program drops: that number stays.
 """
 import os
@@ -18,12 +18,14 @@ import tempfile
 
 sys.path.insert(0, os.path.dirname(os.path.abspath(__file__)))
 from ir_model import functions_of, refines
+from program import alive, usage
 from random_rules import Maker
 from rule_model import BINARY, EXTREMES, FLAGS, POISON, UNARY, UNDEFINED, rules_of
 
 MOST_BLOCKS = 6
 LATER_FLAGS = re.compile(r'\b(icmp samesign|or disjoint|zext nneg|trunc(?: nuw| nsw)+)\b')
 IN_MODULE = 50
+MIXES = [[], ['--fold'], ['--across'], ['--fold', '--across']]
 KNOWN = """
 Name: add-zero
 %r = add %x, 0
@@ -236,9 +238,9 @@ class Writer:
             self.bound[node[1]] = self.number(width) if kind == 'const' else self.any_of(there, width)
         return self.bound[node[1]]
 
-    def source(self, there):
-        """The statements of the source, with other instructions between them."""
-        for k, (register, op, extra, operands, _) in enumerate(self.rule.source):
+    def source(self, there, first=0, last=None):
+        """Statements of the source, with other instructions between them."""
+        for k, (register, op, extra, operands, _) in list(enumerate(self.rule.source))[first:last]:
             name, width = self.fresh(), self.typing[self.rule.of[self.rule.results[k]]]
             texts = [self.operand(v, there) for _, v in operands]
             widths = [self.width(v) for _, v in operands]
@@ -261,10 +263,19 @@ class Writer:
             while self.chance(0.25):
                 self.filler(there)
 
-    def body(self, there):
+    def split(self):
+        """How many statements of the source stand in a block above the others."""
+        return self.random.randrange(len(self.rule.source)) if self.chance(0.5) else 0
+
+    def forget(self, there):
+        """Names that are bound to registers of other blocks are bound anew."""
+        known = {name for name, _ in there}
+        self.bound = {name: text for name, text in self.bound.items() if not text.startswith('%') or text in known}
+
+    def body(self, there, first=0):
         while self.chance(0.4):
             self.filler(there)
-        self.source(there)
+        self.source(there, first)
         while self.chance(0.3):
             self.filler(there)
 
@@ -299,22 +310,23 @@ class Writer:
         return '\n'.join([head, *self.lines, '}', ''])
 
     def loop(self, there, result):
-        outside = list(there)
+        split, outside = self.split(), list(there)
+        self.lines.append('entry:')
+        while self.chance(0.2):
+            self.filler(outside)
+        self.source(outside, 0, split)
+        self.lines.append('  br label %loop\n\nloop:')
         phis = [(self.fresh(), w) for w in {self.typing[self.rule.of[r]] for r in self.rule.results} | {2}]
-        inside = there + phis
+        inside = outside + phis
         counter = phis[[w for _, w in phis].index(2)][0]
         head, self.lines = self.lines, []
-        self.body(inside)
+        self.body(inside, split)
         if self.chance(0.5):
             self.lines.append(f'  %next = add i2 {counter}, 1\n  %go = icmp ult i2 {counter}, {self.any_of(outside, 2)}')
             inside += [('%next', 2), ('%go', 1)]
         goes = self.any_of(inside, 1)
         goes = goes if goes != 'undef' else 'true'
         inner, self.lines = self.lines, head
-        self.lines.append('entry:')
-        while self.chance(0.2):
-            self.filler(outside)
-        self.lines.append('  br label %loop\n\nloop:')
         for name, width in phis:
             back = '%next' if width == 2 and ('%next', 2) in inside else self.any_of(inside, width)
             self.lines.append(f'  {name} = phi i{width} [ {self.any_of(outside, width)}, %entry ], [ {back}, %loop ]')
@@ -325,22 +337,46 @@ class Writer:
         self.lines.append(f'  ret i{result} {self.value(inside, result)}')
 
     def join(self, there, result):
+        """The root stands at the entry, in one of two ways, or behind both; what it reads there, at the entry or in one."""
+        split, where = self.split(), self.random.choice(['entry', 'one', 'join', 'through'])
         self.lines.append('entry:')
         inner = list(there)
-        self.body(inner)
+        if where == 'entry':
+            self.body(inner)
+        elif where != 'through':
+            self.source(inner, 0, split)
         goes = self.any_of(inner, 1)
         goes = goes if goes != 'undef' else 'true'
         self.lines.append(f'  br i1 {goes}, label %one, label %other\n\none:')
         one, other = list(inner), list(inner)
+        if where == 'one':
+            self.source(one, split)
+        elif where == 'through':
+            self.source(one, 0, split)
         self.filler(one)
         self.lines.append('  br label %join\n\nother:')
-        if self.chance(0.5):
+        if where == 'entry' and self.chance(0.5):
             self.bound = {}
             self.source(other)
         self.lines.append('  br label %join\n\njoin:')
         name = self.fresh()
         self.lines.append(f'  {name} = phi i{result} [ {self.value(one, result)}, %one ], [ {self.value(other, result)}, %other ]')
+        if where == 'through':
+            self.merge(inner, other, split)
+        if where in ('join', 'through'):
+            self.forget(inner)
+            self.source(inner, split)
+            name = self.value(inner, result)
         self.lines.append(f'  ret i{result} {name if self.chance(0.7) else self.any_of(inner, result)}')
+
+    def merge(self, there, other, count):
+        """Phis of the first statements' registers, which only one way assigns."""
+        for k in range(count):
+            register, width = self.rule.source[k][0], self.typing[self.rule.of[self.rule.results[k]]]
+            name = self.fresh()
+            self.lines.append(f'  {name} = phi i{width} [ {self.bound[register]}, %one ], [ {self.any_of(other, width)}, %other ]')
+            self.bound[register] = name
+            there.append((name, width))
 
 
 def run(program, *words):
@@ -391,7 +427,10 @@ def lli_results(lli, folder, text, function, runs):
     path = os.path.join(folder, 'lli.ll')
     with open(path, 'w') as file:
         file.write(''.join(main))
-    said = subprocess.run([lli, '-opaque-pointers', path], capture_output=True, text=True)
+    try:
+        said = subprocess.run([lli, '-opaque-pointers', path], capture_output=True, text=True, timeout=10)
+    except subprocess.TimeoutExpired:
+        return None
     return None if said.returncode else [int(x) for x in said.stdout.split()]
 
 
@@ -429,8 +468,8 @@ def main(program, wanted, seed, lli=None):
             with open(path, 'w') as file:
                 file.write(module)
             old = functions_of(module)
-            for steps in ('1', '20'):
-                said = run(program, 'optimise', '--steps', steps, rules_path, path)
+            for steps, *flags in ([steps, *flags] for steps in ('1', '20') for flags in MIXES):
+                said = run(program, 'optimise', '--steps', steps, *flags, rules_path, path)
                 if said.returncode != 0:
                     print(text, module, said.stderr, sep='\n')
                     return 1
@@ -441,9 +480,9 @@ def main(program, wanted, seed, lli=None):
                     if fault:
                         wrong += 1
                         print(text, part, said.stdout.split(f'@{before.name}(')[1].split('\n}')[0], fault, sep='\n')
-                    if steps == '1':
+                    if steps == '1' and not flags:
                         rewritten += count > 0
-                    else:
+                    elif not flags:
                         rewrites += count
                     if lli and steps == '20' and count and by_lli < 500:
                         runs = plain_runs(before, 4)
@@ -461,4 +500,5 @@ def main(program, wanted, seed, lli=None):
 
 
 if __name__ == '__main__':
-    sys.exit(main(sys.argv[1], int(sys.argv[2]), int(sys.argv[3]), *sys.argv[4:5]))
+    usage(__doc__)
+    sys.exit(main(alive(), int(sys.argv[1]), int(sys.argv[2]), *sys.argv[3:4]))

@@ -1,6 +1,6 @@
 """Random rules: what the program prints for them beside what `rule_model.py` finds.
 
-    python3 bench/random_rules.py PROGRAM COUNT SEED [facts]
+    python3 bench/random_rules.py COUNT SEED [facts]
 
 prints each rule at which they differ, and at the end how many rules there were, how many of them were decided, how many of these have
 facts, which are the members of the precondition that say something of bits, and how often there was each answer. With `facts` each rule
@@ -14,6 +14,7 @@ import sys
 import tempfile
 
 sys.path.insert(0, os.path.dirname(os.path.abspath(__file__)))
+from program import alive, usage
 from rule_model import BINARY, CASTS, COMPARISONS, EXTREMES, FLAGS, LEVELS, UNARY, rules_of
 
 PREDICATES = 'eq ne ugt uge ult ule sgt sge slt sle'.split()
@@ -244,4 +245,5 @@ def main(program, count, seed, facts=None):
 
 
 if __name__ == '__main__':
-    main(sys.argv[1], int(sys.argv[2]), int(sys.argv[3]), *sys.argv[4:])
+    usage(__doc__)
+    main(alive(), int(sys.argv[1]), int(sys.argv[2]), *sys.argv[3:])

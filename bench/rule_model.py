@@ -10,6 +10,8 @@ import itertools
 import re
 import sys
 
+from program import usage
+
 EXTREMES = 'umin umax smin smax'.split()
 BINARY = 'add sub mul udiv sdiv urem srem shl lshr ashr and or xor'.split() + EXTREMES
 UNARY = 'abs ctpop ctlz cttz'.split()
@@ -635,6 +637,7 @@ def rules_of(text):
 
 
 if __name__ == '__main__':
+    usage(__doc__)
     widths = [int(x) for x in sys.argv[2].split(',')]
     for rule in rules_of(open(sys.argv[1]).read()):
         for typing in rule.typings(widths):
